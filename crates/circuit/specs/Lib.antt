@@ -1,0 +1,6 @@
+pub mod Gates
+pub mod Names
+pub mod Spelled
+pub mod Shape
+pub mod Plans
+pub mod Refusals

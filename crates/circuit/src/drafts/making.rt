@@ -1,0 +1,36 @@
+ghost use mathlib.Core.Path.{_≡_};
+ghost use Rattle.std.specs.Vec.{made};
+ghost use Rattle.circuit.specs.Names.{find};
+ghost use Rattle.circuit.specs.Plans.{plan-of, empty};
+use super::Draft;
+use crate::names;
+use std::alloc::AllocError;
+use std::alloc::Global;
+
+impl Draft {
+    // An empty draft with room for the largest circuit.
+    pub fn new(heap: Global) -> Result<Draft, AllocError>
+        ensures { λ r. ⌜ made r (λ d. plan-of d ≡ empty) ⌝ }
+    {
+        let lines = Vec::with_capacity(heap, 1024)?;
+        let names = Vec::with_capacity(heap, 1024)?;
+        let outputs = Vec::with_capacity(heap, 63)?;
+        Ok(Draft { lines, names, outputs, inputs: 0 })
+    }
+
+    pub fn clear(&mut self)
+        ensures { λ _. ⌜ plan-of (now (self .exit)) ≡ empty ⌝ }
+    {
+        self.outputs.clear();
+        self.lines.clear();
+        self.names.clear();
+        self.inputs = 0;
+    }
+
+    // The line of a name.
+    pub fn line_of(&self, name: &[u8]) -> Option<usize>
+        ensures { λ r. ⌜ r ≡ find (plan-of (now (self .entry)) .names) (now (name .entry)) ⌝ }
+    {
+        names::find(self.names.as_slice(), name)
+    }
+}
