@@ -1,3 +1,5 @@
 pub mod Runs
 pub mod Gaps
 pub mod PinTurns
+pub mod Grown
+pub mod Resolved

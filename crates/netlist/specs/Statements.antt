@@ -119,6 +119,13 @@ stmt-of (code.Input n) = input (named n)
 stmt-of (code.Output n) = output (named n)
 stmt-of (code.Gate n k p) = gate (named n) k (labels (p .count) (toks (p .scanner)))
 
+-- the number of pins fits the kind
+abbrev pub fitted : Statement → Bool
+fitted code.Blank = true
+fitted (code.Input n) = true
+fitted (code.Output n) = true
+fitted (code.Gate n k p) = fits k (p .count)
+
 abbrev pub stated : Result Statement Refusal → Result Stmt Refusal
 stated (Ok s) = Ok (stmt-of s)
 stated (Err e) = Err e

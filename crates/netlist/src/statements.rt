@@ -1,10 +1,11 @@
 // The statement of a netlist's line.
 ghost use mathlib.Core.Path.{_≡_};
 ghost use mathlib.Core.Bool.{true};
+ghost use Rattle.std.specs.Vec.{made};
 ghost use Rattle.std.specs.declared.result.Result.the-variants.{Ok};
 ghost use Prim.Native.Nat.{_≤_};
 ghost use Rattle.netlist.specs.Tokens.{seen, left, toks, first, after};
-ghost use Rattle.netlist.specs.Statements.{named, told, stated, label, want-name, want, one-name, next-pin, pins, want-kind, gate-of, kind-of, form-of, statement-of};
+ghost use Rattle.netlist.specs.Statements.{named, told, stated, label, want-name, want, one-name, next-pin, pins, want-kind, gate-of, kind-of, form-of, statement-of, fitted};
 use crate::tokens::Scanner;
 use crate::tokens::Sort;
 use crate::tokens::SortPartialEq;
@@ -127,7 +128,8 @@ fn want_kind(word: Label<'_>) -> Result<Kind, Refusal>
 // What stands after the name of a line that a gate drives: the form first, then the kind, then the number of pins.
 fn read_gate<'t>(name: Label<'t>, sc: &mut Scanner<'t>) -> Result<Statement<'t>, Refusal>
     requires { ⌜ left (now sc) ≤ 65536 ⌝ }
-    ensures { λ r. ⌜ stated r ≡ gate-of (named (name .entry)) (toks (now (sc .entry))) ⌝ }
+    ensures value { λ r. ⌜ stated r ≡ gate-of (named (name .entry)) (toks (now (sc .entry))) ⌝ }
+    ensures fits { λ r. ⌜ made r (λ s. fitted s ≡ true) ⌝ }
 {
     want(sc.next_token(), Sort::Equals)?;
     let word = want_name(sc.next_token())?;
@@ -161,7 +163,8 @@ fn settle(word: &[u8]) -> Form
 
 pub(crate) fn read_statement<'t>(sc: &mut Scanner<'t>) -> Result<Statement<'t>, Refusal>
     requires { ⌜ left (now sc) ≤ 65536 ⌝ }
-    ensures { λ r. ⌜ stated r ≡ statement-of (toks (now (sc .entry))) ⌝ }
+    ensures value { λ r. ⌜ stated r ≡ statement-of (toks (now (sc .entry))) ⌝ }
+    ensures fits { λ r. ⌜ made r (λ s. fitted s ≡ true) ⌝ }
 {
     let head = sc.next_token();
     match head {

@@ -1,0 +1,34 @@
+use mathlib.Core.Path.{_≡_, sym, ap, subst, _∙_}
+use mathlib.Core.List.{map, [], _∷_, _++_}
+use native.Mathlib.Omega.{arith}
+use borrow.Author.Needs.{needs}
+use lib.ListN.{length}
+use Rattle.std.proofs.shelf.Lists.{map-push}
+use Rattle.std.specs.Of.Vec.{vec-items}
+use Rattle.circuit.specs.Shape.{inputsIn, Distinct}
+use Rattle.circuit.specs.Spelled.{bytes-of}
+use Rattle.circuit.specs.Plans.{Plan}
+use Rattle.netlist.specs.Driving.{with-line}
+use Rattle.netlist.proofs.Grown.{counted-push, filled-push, fed-push, numbered-push, distinct-push, shown-more}
+use Rattle.netlist.proofs.driving.push_line.Needs as need
+
+pub ghost-draft : need.ghost-draft
+ghost-draft c =
+    let d = c .args .draft .now in
+    let ls = vec-items (d .lines) in
+    let ms = vec-items (c .push-reserved .last .self) in
+    let l = c .args .line in
+    let e : ms ≡ ls ++ l ∷ [] = c .push-reserved .ensures .items in
+    let ok = c .pre .line in
+    let names : map bytes-of (vec-items (c .push-reserved-2 .last .self)) ≡ map bytes-of (vec-items (d .names)) ++ bytes-of (c .args .name) ∷ [] = ap (map bytes-of) (c .push-reserved-2 .ensures .items) ∙ map-push bytes-of (vec-items (d .names)) (c .args .name) in
+    (search needs, (search needs, (search needs, (c .pre .inputs .0 ∙ ap inputsIn (sym e), (search needs, (search needs,
+    (shown-more (vec-items (d .outputs)) _ _ (omega (arith, c .push-reserved .ensures .len)) (d .shown),
+    (counted-push ls ms l e ok (d .counted), (filled-push ls ms l e ok (d .filled), (fed-push ls ms l e ok (d .fed), (numbered-push ls ms l e ok (d .numbered),
+    (subst Distinct (sym names) (distinct-push (map bytes-of (vec-items (d .names))) (bytes-of (c .args .name)) (d .distinct) (c .pre .fresh)), tt))))))))))))
+
+pub returns : need.returns
+returns c =
+    let d = c .args .draft .now in
+    let lines = c .push-reserved .ensures .items in
+    let names = ap (map bytes-of) (c .push-reserved-2 .ensures .items) ∙ map-push bytes-of (vec-items (d .names)) (c .args .name) in
+    λ i. record { lines = lines i; names = names i; outputs = vec-items (d .outputs) }
