@@ -4,3 +4,4 @@ pub mod Spelled
 pub mod Shape
 pub mod Plans
 pub mod Refusals
+pub mod Survey

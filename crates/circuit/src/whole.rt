@@ -5,6 +5,7 @@ ghost use Rattle.std.specs.Of.Vec.{vec-items, vec-len};
 use crate::drafts::Draft;
 
 mod questions;
+mod survey;
 
 // Made empty once, with room for the largest circuit; then filled, refilled or emptied.
 #[derive(Drop)]

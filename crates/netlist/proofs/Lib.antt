@@ -3,3 +3,4 @@ pub mod Gaps
 pub mod PinTurns
 pub mod Grown
 pub mod Resolved
+pub mod LineTurns

@@ -1,4 +1,7 @@
 ghost use mathlib.Core.Path.{_≡_};
+ghost use Prim.Native.Nat.{_<_};
+ghost use Rattle.std.specs.Of.Vec.{vec-len};
+ghost use Rattle.std.specs.Options.{Cases};
 ghost use Rattle.std.specs.Vec.{made};
 ghost use Rattle.circuit.specs.Names.{find};
 ghost use Rattle.circuit.specs.Plans.{plan-of, empty};
@@ -29,7 +32,8 @@ impl Draft {
 
     // The line of a name.
     pub fn line_of(&self, name: &[u8]) -> Option<usize>
-        ensures { λ r. ⌜ r ≡ find (plan-of (now (self .entry)) .names) (now (name .entry)) ⌝ }
+        ensures value { λ r. ⌜ r ≡ find (plan-of (now (self .entry)) .names) (now (name .entry)) ⌝ }
+        ensures within { λ r. ⌜ Cases r (Unit {0}) (λ i. i < vec-len (now (self .entry) .lines)) ⌝ }
     {
         names::find(self.names.as_slice(), name)
     }
