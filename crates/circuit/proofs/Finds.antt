@@ -1,5 +1,5 @@
 -- A search for a name, one place on; unequal prints tell names apart.
-use mathlib.Core.Path.{_≡_, refl, sym, ap, subst, _∙_}
+use mathlib.Core.Path.{_≡_, refl, sym, ap, _∙_}
 use mathlib.Core.Bool.{Bool, true, false, cond}
 use mathlib.Core.List.{List, [], _∷_, _++_, map}
 use Prim.Native.Nat.{ℕ, zero, suc, _+_, _≤_, _<_}
@@ -16,6 +16,7 @@ use Rattle.std.specs.shelf.Text.{sameBytes}
 use Rattle.std.specs.declared.option.Option.{Option}
 use Rattle.std.specs.declared.option.Option.the-variants.{Some, None}
 use Rattle.circuit.specs.Names.{find-from, find, print-of}
+use Rattle.circuit.proofs.Found.{found-at}
 
 module _ {X : Type 0} (view : X → List ℕ) (xs : List X) (w : List ℕ) (i : ℕ) where
   step : (d : X) (b : Bool) → i < length xs → b ≡ sameBytes (view (getD xs i d)) w → find-from i (map view (drop i xs)) w ≡ cond b (Some i) (find-from (i + 1) (map view (drop (i + 1) xs)) w)
@@ -43,15 +44,6 @@ nth-map f [] i = refl
 nth-map f (x ∷ xs) zero = refl
 nth-map f (x ∷ xs) (suc i) = nth-map f xs i
 
--- a name that is found stands at a place
-pub found-within : (i : ℕ) (ns : List (List ℕ)) (w : List ℕ) (k : ℕ) → find-from i ns w ≡ Some k → k < i + length ns
-found-within i [] w k e = let z : _≡_ {A = ℕ} 0 1 = cc in absurd (omega arith)
-found-within i (n ∷ ns) w k e =
-    ⊎-elim
-      (λ (t : sameBytes n w ≡ true). let f : Some i ≡ Some k = subst (λ b. cond b (Some i) (find-from (i + 1) ns w) ≡ Some k) t e in let z : i ≡ k = cc in omega arith)
-      (λ (t : sameBytes n w ≡ false). let f = found-within (i + 1) ns w k (subst (λ b. cond b (Some i) (find-from (i + 1) ns w) ≡ Some k) t e) in omega arith)
-      (cases-bool (sameBytes n w))
-
 pub found-below : (o : Option ℕ) (ns : List (List ℕ)) (w : List ℕ) (n : ℕ) → o ≡ find ns w → length ns ≡ n → Cases o (Unit {0}) (λ i. i < n)
 found-below None ns w n e len = tt
-found-below (Some k) ns w n e len = omega (arith, found-within 0 ns w k (sym e))
+found-below (Some k) ns w n e len = omega (arith, found-at k ns w (sym e) .0)

@@ -57,7 +57,7 @@ module _ (l e : ℕ) where
       (λ h. rw (h, drop-all (length bs) bs (omega arith)))
       (λ h. cond-both (space-byte b) _ _ P (λ t. rw (h, t) (words-gap bs)) (λ t. refl))
 
-not-end : (b : ℕ) (bs : List ℕ) → is-end (first-word (b ∷ bs)) ≡ false
+pub not-end : (b : ℕ) (bs : List ℕ) → is-end (first-word (b ∷ bs)) ≡ false
 not-end b bs =
     let P : Word → Type 0 = λ w. is-end w ≡ false in
     cond-both (name-byte b) _ _ P (λ _. refl)

@@ -1,4 +1,4 @@
--- A gate's pins, one name on; what an accepted step says.
+-- A gate's pins, one name on.
 use mathlib.Core.Path.{_≡_, refl, sym, ap, subst, _∙_}
 use mathlib.Core.Bool.{Bool, true, false, cond}
 use mathlib.Core.List.{List, [], _∷_, _++_}
@@ -6,15 +6,12 @@ use Prim.Native.Nat.{ℕ, zero, suc, _+_, _-_, _<_, _≤_, min}
 use native.Mathlib.Omega.{arith}
 use lib.Dec.{leb}
 use lib.ListN.{length, getD, set, take, drop, replicate, length-take}
-use Rattle.std.proofs.shelf.Lists.{append-assoc, append-nil, take-append-drop, take-more-set, drop-set-lt, drop-replicate, drop-drop, length-take-le, length-append, length-replicate, getD-append-left, take-at}
-use Rattle.std.proofs.shelf.Tests.{and-parts, leb-true}
+use Rattle.std.proofs.shelf.Lists.{append-assoc, append-nil, take-append-drop, take-more-set, drop-set-lt, drop-replicate, drop-drop, length-take-le, length-append, length-replicate, length-map}
 use Rattle.std.specs.Options.{isSome, okOr}
 use Rattle.std.specs.declared.option.Option.{Option}
 use Rattle.std.specs.declared.option.Option.the-variants.{Some, None}
 use Rattle.std.specs.declared.result.Result.{Result}
 use Rattle.std.specs.declared.result.Result.the-variants.{Ok, Err}
-use Rattle.circuit.proofs.Finds.{found-within}
-use Rattle.circuit.specs.Gates.{least, most, fits}
 use Rattle.circuit.specs.Names.{find}
 use Rattle.circuit.specs.Shape.{padded, gateOf}
 use Rattle.circuit.specs.Plans.{Plan}
@@ -23,25 +20,19 @@ use Rattle.circuit.specs.declared.lines.Line.{Line}
 use Rattle.circuit.specs.declared.lines.Line.the-variants.{Gate}
 use Rattle.circuit.specs.declared.refusals.Refusal.{Refusal}
 use Rattle.circuit.specs.declared.refusals.Refusal.the-variants.{LongName, UnknownPin}
+use Rattle.netlist.proofs.Risen.{unless-ok, not-some}
+use Rattle.netlist.proofs.Pushed.{resolved}
+use Rattle.netlist.proofs.Said.{bytes-at}
 use Rattle.netlist.specs.Tokens.{Tok, first, after}
 use Rattle.netlist.specs.Statements.{Named, label, labels, bind, unless}
-use Rattle.netlist.specs.Driving.{Fits, with-line, long, driven, want-short, want-room, want-undriven, short-pins, resolve, drive-gate}
-
--- a step that is accepted: its condition for refusal fails
-pub passed : {X : Type 0} (b : Bool) (e : Refusal) (r : Result X Refusal) (x : X) → Ok x ≡ unless b e r → (b ≡ false) × (Ok x ≡ r)
-passed true e r x h = let z : _≡_ {A = ℕ} 0 1 = cc in absurd (omega arith)
-passed false e r x h = (refl, h)
-
-not-some : (o : Option ℕ) → isSome o ≡ false → o ≡ None
-not-some None h = refl
-not-some (Some k) h = let z : _≡_ {A = ℕ} 0 1 = cc in absurd (omega arith)
+use Rattle.netlist.specs.Driving.{with-line, long, driven, want-short, want-room, want-undriven, short-pins, resolve, drive-gate}
 
 -- a short name that drives no line yet is not found
 pub fresh-name : (p : Plan) (n : Named) (w : List ℕ) → Ok w ≡ want-short n → Ok tt ≡ want-undriven p n → find (p .names) w ≡ None
 fresh-name p n w short free =
-    let same : Ok w ≡ Ok (n .bytes) = passed (long n) _ _ w short .1 in
+    let same = unless-ok (long n) _ (Ok (n .bytes)) w (sym short) .1 in
     let e : w ≡ n .bytes = cc in
-    ap (find (p .names)) e ∙ not-some _ (passed (driven p n) _ _ tt free .0)
+    ap (find (p .names)) e ∙ not-some _ (unless-ok (driven p n) _ (Ok tt) tt (sym free) .0)
 
 -- the names of n pins, where there is one
 pub labels-turn : (n : ℕ) (ts : List Tok) → 0 < n → labels n ts ≡ label (first ts) ∷ labels (n - 1) (after (after ts))
@@ -84,31 +75,6 @@ padded-front p found le (len, rest) =
     let n : length (take p found) ≡ p = length-take-le p found (omega arith) in
     ap (λ k. take p found ++ replicate (4 - k) 0) n ∙ ap (λ ys. take p found ++ ys) (sym rest) ∙ take-append-drop p found
 
-pub resolve-length : (names : List (List ℕ)) (ns : List Named) (ls : List ℕ) → resolve names ns ≡ Ok ls → length ls ≡ length ns
-resolve-length names [] ls e = let f : ls ≡ [] = cc in ap length f
-resolve-length names (n ∷ ns) ls e = by-find (find names (n .bytes)) (resolve names ns) (resolve-length names ns) e
-  where
-    by-rest : (l : ℕ) (r : Result (List ℕ) Refusal) → ((ks : List ℕ) → r ≡ Ok ks → length ks ≡ length ns) → bind r (λ ks. Ok (l ∷ ks)) ≡ Ok ls → length ls ≡ suc (length ns)
-    by-rest l (Ok ks) ih e = let f : ls ≡ l ∷ ks = cc in ap length f ∙ ap suc (ih ks refl)
-    by-rest l (Err d) ih e = let z : _≡_ {A = ℕ} 0 1 = cc in absurd (omega arith)
-    by-find : (o : Option ℕ) (r : Result (List ℕ) Refusal) → ((ks : List ℕ) → r ≡ Ok ks → length ks ≡ length ns) → bind (okOr o (UnknownPin (n .place))) (λ l. bind r (λ ks. Ok (l ∷ ks))) ≡ Ok ls → length ls ≡ suc (length ns)
-    by-find (Some l) r ih e = by-rest l r ih e
-    by-find None r ih e = let z : _≡_ {A = ℕ} 0 1 = cc in absurd (omega arith)
-
-pub resolve-below : (names : List (List ℕ)) (ns : List Named) (ls : List ℕ) → resolve names ns ≡ Ok ls → (p : ℕ) → p < length ls → getD ls p 0 < length names
-resolve-below names [] ls e p lt = let f : ls ≡ [] = cc in absurd (omega (arith, ap length f))
-resolve-below names (n ∷ ns) ls e p lt = by-find (find names (n .bytes)) refl (resolve names ns) (resolve-below names ns) e
-  where
-    at-place : (l : ℕ) (ks : List ℕ) (p : ℕ) → l < length names → ((q : ℕ) → q < length ks → getD ks q 0 < length names) → p < suc (length ks) → getD (l ∷ ks) p 0 < length names
-    at-place l ks zero low below lt = low
-    at-place l ks (suc p) low below lt = below p (omega arith)
-    by-rest : (l : ℕ) → l < length names → (r : Result (List ℕ) Refusal) → ((ks : List ℕ) → r ≡ Ok ks → (q : ℕ) → q < length ks → getD ks q 0 < length names) → bind r (λ ks. Ok (l ∷ ks)) ≡ Ok ls → getD ls p 0 < length names
-    by-rest l low (Ok ks) ih e = let f : ls ≡ l ∷ ks = cc in subst (λ xs. getD xs p 0 < length names) (sym f) (at-place l ks p low (ih ks refl) (omega (arith, ap length f)))
-    by-rest l low (Err d) ih e = let z : _≡_ {A = ℕ} 0 1 = cc in absurd (omega arith)
-    by-find : (o : Option ℕ) → find names (n .bytes) ≡ o → (r : Result (List ℕ) Refusal) → ((ks : List ℕ) → r ≡ Ok ks → (q : ℕ) → q < length ks → getD ks q 0 < length names) → bind (okOr o (UnknownPin (n .place))) (λ l. bind r (λ ks. Ok (l ∷ ks))) ≡ Ok ls → getD ls p 0 < length names
-    by-find (Some l) f r ih e = by-rest l (omega (arith, found-within 0 names (n .bytes) l f)) r ih e
-    by-find None f r ih e = let z : _≡_ {A = ℕ} 0 1 = cc in absurd (omega arith)
-
 pub labels-length : (n : ℕ) (ts : List Tok) → length (labels n ts) ≡ n
 labels-length zero ts = refl
 labels-length (suc n) ts = ap suc (labels-length n (after (after ts)))
@@ -121,20 +87,9 @@ pins-found k n found names ns len e = by-result (resolve names ns) refl e
     by-result : (r : Result (List ℕ) Refusal) → resolve names ns ≡ r → Ok found ≡ bind r (λ ls. Ok (padded ls)) → (ls : List ℕ) × (resolve names ns ≡ Ok ls) × (length ls ≡ n) × (Gate (record { kind = k; pins = found; count = n }) ≡ Gate (gateOf k ls))
     by-result (Ok ls) h e =
         let f : found ≡ padded ls = cc in
-        let m : length ls ≡ n = resolve-length names ns ls h ∙ len in
+        let m : length ls ≡ n = sym (length-map ls (λ i. getD names i [])) ∙ ap length (resolved names ns ls h .1) ∙ length-map ns bytes-at ∙ len in
         (ls, h, m, λ i. Gate (record { kind = k; pins = f i; count = sym m i }))
     by-result (Err d) h e = let z : _≡_ {A = ℕ} 0 1 = cc in absurd (omega arith)
-
--- a gate whose pins are found among the names of the lines may follow them
-pub gate-fits : (ls : List Line) (k : Kind) (names : List (List ℕ)) (ns : List Named) (ps : List ℕ) → resolve names ns ≡ Ok ps → length names ≡ length ls → fits k (length ps) ≡ true → Fits ls (Gate (gateOf k ps))
-gate-fits ls k names ns ps found same ok =
-    let both = and-parts (leb (least k) (length ps)) (leb (length ps) (most k)) ok in
-    record {
-      counted = (leb-true (least k) (length ps) (both .0), leb-true (length ps) (most k) (both .1));
-      filled = ap padded (sym (take-at ps (replicate (4 - length ps) 0) (length ps) refl));
-      fed = λ p lt. subst (λ x. x < length ls) (sym (getD-append-left ps (replicate (4 - length ps) 0) 0 p lt)) (omega (arith, resolve-below names ns ps found p lt));
-      numbered = λ t. let z : _≡_ {A = ℕ} 0 1 = cc in absurd (omega arith)
-    }
 
 -- a gate statement that passes each step
 pub gate-driven : (p : Plan) (n : Named) (k : Kind) (ns : List Named) (w : List ℕ) (ls : List ℕ) → Ok w ≡ want-short n → Ok tt ≡ want-room p n → Ok tt ≡ short-pins ns → Ok tt ≡ want-undriven p n → Ok ls ≡ resolve (p .names) ns → Ok (with-line p w (Gate (gateOf k ls))) ≡ drive-gate p n k ns

@@ -6,12 +6,17 @@ use Prim.Native.Nat.{ℕ, _≤_, _<_}
 use lib.Chars.{codes}
 use lib.ListN.{length, getD, take}
 use Rattle.std.specs.shelf.Lists.{All}
+use Rattle.std.specs.declared.option.Option.the-variants.{Some}
+use Rattle.std.specs.declared.result.Result.{Result}
+use Rattle.std.specs.declared.result.Result.the-variants.{Ok}
+use Rattle.circuit.specs.Gates.{kind-word}
+use Rattle.circuit.specs.Names.{find}
 use Rattle.circuit.specs.Plans.{Plan, Sound}
 use Rattle.circuit.specs.Shape.{pinsOf}
 use Rattle.circuit.specs.declared.kinds.Kind.{Kind}
-use Rattle.circuit.specs.declared.kinds.Kind.the-variants.{And, Nand, Or, Nor, Xor, Xnor, Not, Buff}
 use Rattle.circuit.specs.declared.lines.Line.{Line}
 use Rattle.circuit.specs.declared.lines.Line.the-variants.{Input, Gate}
+use Rattle.circuit.specs.declared.refusals.Refusal.{Refusal}
 use Rattle.netlist.specs.Tokens.{Word, name, open-sign, close-sign, comma, equals, stray, end, name-byte, space-byte, spelling}
 use Rattle.netlist.specs.Reading.{in-line}
 
@@ -20,16 +25,6 @@ pub data Said : Type 0 where
   input : List ℕ → Said
   output : List ℕ → Said
   gate : List ℕ → Kind → List (List ℕ) → Said
-
-abbrev pub kind-word : Kind → List ℕ
-kind-word And = codes "AND"
-kind-word Nand = codes "NAND"
-kind-word Or = codes "OR"
-kind-word Nor = codes "NOR"
-kind-word Xor = codes "XOR"
-kind-word Xnor = codes "XNOR"
-kind-word Not = codes "NOT"
-kind-word Buff = codes "BUFF"
 
 -- names with commas between them, and the closing sign
 abbrev pub pin-words : List (List ℕ) → List Word
@@ -129,3 +124,10 @@ pub record Accepted (text : List ℕ) (p : Plan) : Type 0 where
   pub statements : List Said
   pub spelt : Text text statements
   pub make : Makes statements p
+
+-- a reading that answers r and leaves the circuit p is lawful: it accepts exactly the texts that the grammar accepts,
+-- as their circuit, and every line's name is found at that line
+pub record Lawful (text : List ℕ) (r : Result (Unit {0}) Refusal) (p : Plan) : Type 0 where
+  pub accepts : (q : Plan) → Accepted text q → (r ≡ Ok tt) × (p ≡ q)
+  pub accepted : r ≡ Ok tt → Accepted text p
+  pub found : r ≡ Ok tt → (i : ℕ) → i < length (p .names) → find (p .names) (name-at p i) ≡ Some i

@@ -1,7 +1,8 @@
 use mathlib.Core.Path.{_≡_, sym, ap, subst, _∙_}
 use mathlib.Core.Bool.{true}
-use mathlib.Core.List.{List}
-use Prim.Native.Nat.{ℕ}
+use mathlib.Core.List.{List, [], _∷_}
+use Prim.Native.Nat.{ℕ, _<_}
+use Rattle.std.specs.shelf.Lists.{All}
 use native.Mathlib.Omega.{arith}
 use borrow.Author.Needs.{needs}
 use lib.ListN.{length, length-map}
@@ -16,8 +17,8 @@ use Rattle.circuit.specs.Spelled.{bytes-of}
 use Rattle.netlist.specs.Tokens.{toks}
 use Rattle.netlist.specs.Statements.{Named, named, labels}
 use Rattle.netlist.specs.Driving.{Fits, with-line, resolve}
-use Rattle.netlist.proofs.Grown.{inputs-push}
-use Rattle.netlist.proofs.Resolved.{fresh-name, pins-found, labels-length, gate-fits, gate-driven}
+use Rattle.netlist.proofs.Pushed.{inputs-append, fits-gate, resolved}
+use Rattle.netlist.proofs.Resolved.{fresh-name, pins-found, labels-length, gate-driven}
 use Rattle.netlist.proofs.driving.drive_gate.Needs as need
 use Rattle.netlist.proofs.driving.drive_gate.Needs.{In-Continue-found}
 
@@ -39,8 +40,8 @@ push-line-requires c κs =
     record {
       room = search needs;
       fresh = fresh-name (plan-of d) (named (c .args .label)) _ (c .in-Continue-name .ensures tt) (c .in-Continue-want-undriven .ensures tt);
-      line = subst (Fits (vec-items (d .lines))) (sym (p .3)) (gate-fits (vec-items (d .lines)) (c .args .kind) (plan-of d .names) (pin-labels b) (p .0) (p .1) same (ap (fits (c .args .kind)) (p .2) ∙ c .pre));
-      inputs = (omega (arith, inputs-push (vec-items (d .lines)) (line-of b), d .tallied), search needs)
+      line = subst (Fits (vec-items (d .lines))) (sym (p .3)) (fits-gate (vec-items (d .lines)) (c .args .kind) (p .0) (ap (fits (c .args .kind)) (p .2) ∙ c .pre) (subst (λ n. All (λ i. i < n) (p .0)) same (resolved (plan-of d .names) (pin-labels b) (p .0) (p .1) .0)));
+      inputs = (omega (arith, inputs-append (vec-items (d .lines)) (line-of b ∷ []), d .tallied), search needs)
     }
 
 pub returns : need.returns

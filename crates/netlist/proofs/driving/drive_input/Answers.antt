@@ -1,11 +1,12 @@
 use mathlib.Core.Path.{_≡_, refl}
+use mathlib.Core.List.{[], _∷_}
 use native.Mathlib.Omega.{arith}
 use borrow.Author.Needs.{needs}
 use Rattle.std.specs.Of.Vec.{vec-items}
 use Rattle.circuit.specs.declared.lines.Line.the-variants.{Input}
 use Rattle.circuit.specs.Plans.{plan-of}
 use Rattle.netlist.specs.Statements.{named}
-use Rattle.netlist.proofs.Grown.{inputs-push}
+use Rattle.netlist.proofs.Pushed.{inputs-append}
 use Rattle.netlist.proofs.Resolved.{fresh-name}
 use Rattle.netlist.proofs.driving.drive_input.Needs as need
 
@@ -17,5 +18,5 @@ push-line-requires c κs =
       room = search needs;
       fresh = fresh-name (plan-of d) (named (c .args .label)) _ (c .in-Continue-name .ensures tt) (c .in-Continue-want-undriven .ensures tt);
       line = record { counted = (search needs, search needs); filled = refl; fed = λ p lt. absurd (omega arith); numbered = λ _. d .tallied };
-      inputs = (omega (arith, inputs-push ls (Input (d .inputs)), d .tallied), search needs)
+      inputs = (omega (arith, inputs-append ls (Input (d .inputs) ∷ []), d .tallied), search needs)
     }

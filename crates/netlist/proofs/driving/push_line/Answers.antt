@@ -5,11 +5,11 @@ use borrow.Author.Needs.{needs}
 use lib.ListN.{length}
 use Rattle.std.proofs.shelf.Lists.{map-push}
 use Rattle.std.specs.Of.Vec.{vec-items}
-use Rattle.circuit.specs.Shape.{inputsIn, Distinct}
+use Rattle.circuit.specs.Shape.{inputsIn, Counted, Filled, Fed, Numbered, Distinct}
 use Rattle.circuit.specs.Spelled.{bytes-of}
 use Rattle.circuit.specs.Plans.{Plan}
 use Rattle.netlist.specs.Driving.{with-line}
-use Rattle.netlist.proofs.Grown.{counted-push, filled-push, fed-push, numbered-push, distinct-push, shown-more}
+use Rattle.netlist.proofs.Pushed.{counted-push, filled-push, fed-push, numbered-push, distinct-push, shown-more}
 use Rattle.netlist.proofs.driving.push_line.Needs as need
 
 pub ghost-draft : need.ghost-draft
@@ -23,7 +23,7 @@ ghost-draft c =
     let names : map bytes-of (vec-items (c .push-reserved-2 .last .self)) ≡ map bytes-of (vec-items (d .names)) ++ bytes-of (c .args .name) ∷ [] = ap (map bytes-of) (c .push-reserved-2 .ensures .items) ∙ map-push bytes-of (vec-items (d .names)) (c .args .name) in
     (search needs, (search needs, (search needs, (c .pre .inputs .0 ∙ ap inputsIn (sym e), (search needs, (search needs,
     (shown-more (vec-items (d .outputs)) _ _ (omega (arith, c .push-reserved .ensures .len)) (d .shown),
-    (counted-push ls ms l e ok (d .counted), (filled-push ls ms l e ok (d .filled), (fed-push ls ms l e ok (d .fed), (numbered-push ls ms l e ok (d .numbered),
+    (subst Counted (sym e) (counted-push ls l ok (d .counted)), (subst Filled (sym e) (filled-push ls l ok (d .filled)), (subst Fed (sym e) (fed-push ls l ok (d .fed)), (subst Numbered (sym e) (numbered-push ls l ok (d .numbered)),
     (subst Distinct (sym names) (distinct-push (map bytes-of (vec-items (d .names))) (bytes-of (c .args .name)) (d .distinct) (c .pre .fresh)), tt))))))))))))
 
 pub returns : need.returns
