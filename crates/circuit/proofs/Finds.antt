@@ -3,20 +3,18 @@ use mathlib.Core.Path.{_≡_, refl, sym, ap, _∙_}
 use mathlib.Core.Bool.{Bool, true, false, cond}
 use mathlib.Core.List.{List, [], _∷_, _++_, map}
 use Prim.Native.Nat.{ℕ, zero, suc, _+_, _≤_, _<_}
-use native.Mathlib.Omega.{arith}
 use lib.Dec.{eqb}
 use lib.ListN.{length, getD, drop}
 use Rattle.std.proofs.shelf.Lists.{at-drop-more, at-drop-all}
 use Rattle.std.proofs.shelf.Equals.{sameBytes-decides}
 use Rattle.std.proofs.shelf.Tests.{ne-eqb, cases-bool}
 use mathlib.Core.Logic.{⊎-elim}
-use Rattle.std.specs.Options.{mapped, Cases}
+use Rattle.std.specs.Options.{mapped}
 use Rattle.std.specs.shelf.Maps.{nth}
 use Rattle.std.specs.shelf.Text.{sameBytes}
 use Rattle.std.specs.declared.option.Option.{Option}
 use Rattle.std.specs.declared.option.Option.the-variants.{Some, None}
-use Rattle.circuit.specs.Names.{find-from, find, print-of}
-use Rattle.circuit.proofs.Found.{found-at}
+use Rattle.circuit.specs.Names.{find-from, print-of}
 
 module _ {X : Type 0} (view : X → List ℕ) (xs : List X) (w : List ℕ) (i : ℕ) where
   step : (d : X) (b : Bool) → i < length xs → b ≡ sameBytes (view (getD xs i d)) w → find-from i (map view (drop i xs)) w ≡ cond b (Some i) (find-from (i + 1) (map view (drop (i + 1) xs)) w)
@@ -36,14 +34,10 @@ module _ {X : Type 0} (view : X → List ℕ) (xs : List X) (w : List ℕ) (i : 
 pub told-apart : (a b : List ℕ) (p q : ℕ) → p ≡ print-of a → q ≡ print-of b → (p ≡ q → ⊥) → eqb p q ≡ sameBytes a b
 told-apart a b p q pa qb ne =
     ⊎-elim (λ (same : sameBytes a b ≡ true). absurd (ne (pa ∙ ap print-of (sameBytes-decides a b .0 same) ∙ sym qb)))
-      (λ (other : sameBytes a b ≡ false). ne-eqb p q ne ∙ sym other)
-      (cases-bool (sameBytes a b))
+    (λ (other : sameBytes a b ≡ false). ne-eqb p q ne ∙ sym other)
+    (cases-bool (sameBytes a b))
 
 pub nth-map : {X Y : Type 0} (f : X → Y) (xs : List X) (i : ℕ) → mapped f (nth xs i) ≡ nth (map f xs) i
 nth-map f [] i = refl
 nth-map f (x ∷ xs) zero = refl
 nth-map f (x ∷ xs) (suc i) = nth-map f xs i
-
-pub found-below : (o : Option ℕ) (ns : List (List ℕ)) (w : List ℕ) (n : ℕ) → o ≡ find ns w → length ns ≡ n → Cases o (Unit {0}) (λ i. i < n)
-found-below None ns w n e len = tt
-found-below (Some k) ns w n e len = omega (arith, found-at k ns w (sym e) .0)

@@ -95,7 +95,10 @@ impl Refusal {
             | Refusal::ManyLines(place)
             | Refusal::ManyInputs(place)
             | Refusal::ManyOutputs(place) => place,
-            Refusal::LongText | Refusal::NoInput | Refusal::NoOutput => Place { line: 0, column: 0 },
+            Refusal::LongText | Refusal::NoInput | Refusal::NoOutput => Place {
+                line: 0,
+                column: 0,
+            },
         }
     }
 
@@ -103,10 +106,8 @@ impl Refusal {
         ensures { λ r. ⌜ r ≡ layer-of self ⌝ }
     {
         match self {
-            Refusal::LongText
-            | Refusal::UnknownOutput(_)
-            | Refusal::NoInput
-            | Refusal::NoOutput => Layer::Netlist,
+            Refusal::LongText | Refusal::UnknownOutput(_) | Refusal::NoInput | Refusal::NoOutput =>
+                Layer::Netlist,
             _ => Layer::Statement,
         }
     }

@@ -91,7 +91,7 @@ module _ (P : Plan) (sound : Sound P) where
   pub makes-fitting : (ss : List Said) → driving ss ≡ drivers P (P .names) (P .lines) → All Fitting ss
   makes-fitting ss e =
       driving-fitting ss (subst (All Fitting) (sym e)
-        (drivers-fitting P (P .names) (P .lines) (all-from-getD _ (P .lines) shape.blank (sound .counted)) (all-from-getD _ (P .lines) shape.blank (sound .filled))))
+      (drivers-fitting P (P .names) (P .lines) (all-from-getD _ (P .lines) shape.blank (sound .counted)) (all-from-getD _ (P .lines) shape.blank (sound .filled))))
 
   -- the names that are driven already, and those to come
   module _ (dn rn : List (List ℕ)) (split : dn ++ rn ≡ P .names) where
@@ -116,9 +116,10 @@ module _ (P : Plan) (sound : Sound P) where
     pins-read (n ∷ ns) (i ∷ ps) e h =
         let here : n .bytes ≡ name-at P i = cc in
         let there : map bytes-at ns ≡ map (name-at P) ps = cc in
-        let r = pins-read ns ps there (h .1) in
-        (unless-by _ _ (short-by n (n .bytes) refl (short-name i (n .bytes) (h .0) here)) ∙ r .0,
-         rw (name-found i (n .bytes) (h .0) here, r .1))
+        let r = pins-read ns ps there (h .1) in (
+          unless-by _ _ (short-by n (n .bytes) refl (short-name i (n .bytes) (h .0) here)) ∙ r .0,
+          rw (name-found i (n .bytes) (h .0) here, r .1),
+        )
 
   -- the name that comes next is short and new
   module _ (dn rn : List (List ℕ)) (w : List ℕ) (split : dn ++ w ∷ rn ≡ P .names) where
@@ -145,12 +146,14 @@ module _ (P : Plan) (sound : Sound P) where
     next-fits : Fits dl l
     next-fits =
         let i = length dl in
-        record { counted = subst (λ l. (leastPins l ≤ pinCount l) × (pinCount l ≤ mostPins l)) next-line (sound .counted i line-within)
-        ; filled = subst (λ l. places l ≡ filled l) next-line (sound .filled i line-within)
-        ; fed = subst (λ l. (p : ℕ) → p < pinCount l → pinFrom l p < i) next-line (λ p. sound .fed i p line-within)
-        ; numbered = λ h.
-            subst (λ l. isInput l ≡ true → inputAt l ≡ inputsIn (take i (P .lines))) next-line (sound .numbered i line-within) h
-            ∙ ap (λ ls. inputsIn (take i ls)) (sym split) ∙ ap inputsIn (take-at dl (l ∷ rl) i refl) }
+        record {
+          counted = subst (λ l. (leastPins l ≤ pinCount l) × (pinCount l ≤ mostPins l)) next-line (sound .counted i line-within);
+          filled = subst (λ l. places l ≡ filled l) next-line (sound .filled i line-within);
+          fed = subst (λ l. (p : ℕ) → p < pinCount l → pinFrom l p < i) next-line (λ p. sound .fed i p line-within);
+          numbered = λ h.
+              subst (λ l. isInput l ≡ true → inputAt l ≡ inputsIn (take i (P .lines))) next-line (sound .numbered i line-within) h
+              ∙ ap (λ ls. inputsIn (take i ls)) (sym split) ∙ ap inputsIn (take-at dl (l ∷ rl) i refl);
+        }
 
     next-inputs : inputsIn dl + inputsIn (l ∷ []) ≤ 64
     next-inputs =
@@ -232,28 +235,32 @@ module _ (P : Plan) (sound : Sound P) where
     next-of s ss ls [] os lines names size e shown within few = let z : _≡_ {A = ℕ} 0 1 = cc in absurd (omega arith)
     next-of s ss [] (n ∷ ns) os lines names size e shown within few = let z : _≡_ {A = ℕ} 0 1 = cc in absurd (omega arith)
     next-of s ss (l ∷ ls) (n ∷ ns) os lines names size e shown within few =
-        record { word = n
-        ; line = l
-        ; more-lines = ls
-        ; more-names = ns
-        ; lines = lines
-        ; names = names
-        ; is = cc
-        ; left = record { to-drive = ls
-          ; to-name = ns
-          ; to-show = os
-          ; lines = append-assoc dl (l ∷ []) ls ∙ lines
-          ; names = append-assoc dn (n ∷ []) ns ∙ names
-          ; size = omega (arith, length-push dl l, length-push dn n)
-          ; driven = cc
-          ; shown = shown
-          ; within = within
-          ; few = few } }
+        record {
+          word = n;
+          line = l;
+          more-lines = ls;
+          more-names = ns;
+          lines = lines;
+          names = names;
+          is = cc;
+          left = record {
+            to-drive = ls;
+            to-name = ns;
+            to-show = os;
+            lines = append-assoc dl (l ∷ []) ls ∙ lines;
+            names = append-assoc dn (n ∷ []) ns ∙ names;
+            size = omega (arith, length-push dl l, length-push dn n);
+            driven = cc;
+            shown = shown;
+            within = within;
+            few = few;
+          };
+        }
 
     next : (s : Said) (ss : List Said) → drives s ≡ true → Left dl dn a (s ∷ ss) → Next dl dn a s ss
     next s ss d r =
         next-of s ss (r .to-drive) (r .to-name) (r .to-show) (r .lines) (r .names) (r .size)
-          (sym (cond-true (drives s) (s ∷ driving ss) (driving ss) d) ∙ r .driven) (sym (cond-true (drives s) (showing ss) (s ∷ showing ss) d) ∙ r .shown) (r .within) (r .few)
+        (sym (cond-true (drives s) (s ∷ driving ss) (driving ss) d) ∙ r .driven) (sym (cond-true (drives s) (showing ss) (s ∷ showing ss) d) ∙ r .shown) (r .within) (r .few)
 
   -- what a statement leaves
   record Stepped (dl : List Line) (dn : List (List ℕ)) (a : ℕ) (st : Stmt) (ss : List Said) : Type 0 where
@@ -270,29 +277,35 @@ module _ (P : Plan) (sound : Sound P) where
         let b : n .bytes ≡ name-at P o = cc in
         let short : long n ≡ false = short-by n (name-at P o) b (sound .short o (within .0)) in
         let room : many-outputs a ≡ false = lt-leb 63 a (omega arith) in
-        record { lines = dl
-        ; names = dn
-        ; asked = a + 1
-        ; step = rw (short, room)
-        ; left = record { to-drive = r .to-drive; to-name = r .to-name; to-show = os; lines = r .lines; names = r .names; size = r .size; driven = r .driven; shown = cc; within = within .1; few = omega arith } }
+        record {
+          lines = dl;
+          names = dn;
+          asked = a + 1;
+          step = rw (short, room);
+          left = record { to-drive = r .to-drive; to-name = r .to-name; to-show = os; lines = r .lines; names = r .names; size = r .size; driven = r .driven; shown = cc; within = within .1; few = omega arith };
+        }
 
     stepped : (st : Stmt) (ss : List Said) → Left dl dn a (said-of st ++ ss) → Stepped dl dn a st ss
     stepped stmt.blank ss r = record { lines = dl; names = dn; asked = a; step = refl; left = r }
     stepped (stmt.input n) ss r =
         let x = next dl dn a (input (n .bytes)) ss refl r in
-        record { lines = dl ++ x .line ∷ []
-        ; names = dn ++ x .word ∷ []
-        ; asked = a
-        ; step = bind-by (λ q. Ok (record { plan = q; asked = a })) (line-input dl (x .more-lines) dn (x .more-names) (x .word) (r .size) (x .names) (x .line) n (x .lines) (x .is))
-        ; left = x .left }
+        record {
+          lines = dl ++ x .line ∷ [];
+          names = dn ++ x .word ∷ [];
+          asked = a;
+          step = bind-by (λ q. Ok (record { plan = q; asked = a })) (line-input dl (x .more-lines) dn (x .more-names) (x .word) (r .size) (x .names) (x .line) n (x .lines) (x .is));
+          left = x .left;
+        }
     stepped (stmt.output n) ss r = asks n ss (r .to-show) r (r .shown) (r .within) (r .few)
     stepped (stmt.gate n k ns) ss r =
         let x = next dl dn a (gate (n .bytes) k (map bytes-at ns)) ss refl r in
-        record { lines = dl ++ x .line ∷ []
-        ; names = dn ++ x .word ∷ []
-        ; asked = a
-        ; step = bind-by (λ q. Ok (record { plan = q; asked = a })) (line-gate dl (x .more-lines) dn (x .more-names) (x .word) (r .size) (x .names) (x .line) n k ns (x .lines) (x .is))
-        ; left = x .left }
+        record {
+          lines = dl ++ x .line ∷ [];
+          names = dn ++ x .word ∷ [];
+          asked = a;
+          step = bind-by (λ q. Ok (record { plan = q; asked = a })) (line-gate dl (x .more-lines) dn (x .more-names) (x .word) (r .size) (x .names) (x .line) n k ns (x .lines) (x .is));
+          left = x .left;
+        }
 
     nothing-left : (ls : List Line) (ns : List (List ℕ)) → length ls ≡ length ns → [] ≡ drivers P ns ls → (ls ≡ []) × (ns ≡ [])
     nothing-left [] [] size e = (refl, refl)
@@ -354,8 +367,18 @@ module _ (P : Plan) (sound : Sound P) where
     pub all-driven : (b : ℕ) × (fold Drive start sts ≡ Ok (showing-now [] b))
     all-driven =
         drives-all [] [] 0 sts
-          (record { to-drive = P .lines; to-name = P .names; to-show = P .outputs; lines = refl; names = refl; size = refl; driven = driven; shown = shown
-          ; within = all-from-getD _ (P .outputs) 0 (λ i h. subst (λ n. getD (P .outputs) i 0 < n) (sym (sound .named)) (sound .shown i h)); few = omega (arith, sound .few-outputs) })
+        (record {
+          to-drive = P .lines;
+          to-name = P .names;
+          to-show = P .outputs;
+          lines = refl;
+          names = refl;
+          size = refl;
+          driven = driven;
+          shown = shown;
+          within = all-from-getD _ (P .outputs) 0 (λ i h. subst (λ n. getD (P .outputs) i 0 < n) (sym (sound .named)) (sound .shown i h));
+          few = omega (arith, sound .few-outputs);
+        })
 
     pub all-shown : (b : ℕ) → fold Show (showing-now [] b) sts ≡ Ok (record { plan = P; asked = b })
     all-shown b = shows-all [] (P .outputs) b sts refl shown

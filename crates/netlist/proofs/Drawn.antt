@@ -55,29 +55,33 @@ grown-push p w l g f short room inputs fresh =
     let ls = p .lines in
     let a = length-push ls l in
     let b = length-push (p .names) w in
-    record { few-lines = omega arith
-    ; few-inputs = omega (arith, inputs-append ls (l ∷ []))
-    ; counted = counted-push ls l f (g .counted)
-    ; filled = filled-push ls l f (g .filled)
-    ; fed = fed-push ls l f (g .fed)
-    ; numbered = numbered-push ls l f (g .numbered)
-    ; named = omega (arith, g .named)
-    ; short = every-push [] (λ i x. length x ≤ 16) (p .names) w (g .short) short
-    ; distinct = distinct-push (p .names) w (g .distinct) fresh
-    ; unshown = g .unshown }
+    record {
+      few-lines = omega arith;
+      few-inputs = omega (arith, inputs-append ls (l ∷ []));
+      counted = counted-push ls l f (g .counted);
+      filled = filled-push ls l f (g .filled);
+      fed = fed-push ls l f (g .fed);
+      numbered = numbered-push ls l f (g .numbered);
+      named = omega (arith, g .named);
+      short = every-push [] (λ i x. length x ≤ 16) (p .names) w (g .short) short;
+      distinct = distinct-push (p .names) w (g .distinct) fresh;
+      unshown = g .unshown;
+    }
 
 grown-none : Grown empty
 grown-none =
-    record { few-lines = omega arith
-    ; few-inputs = omega arith
-    ; counted = λ i h. absurd (omega arith)
-    ; filled = λ i h. absurd (omega arith)
-    ; fed = λ i p h. absurd (omega arith)
-    ; numbered = λ i h. absurd (omega arith)
-    ; named = refl
-    ; short = λ i h. absurd (omega arith)
-    ; distinct = λ i j lt h. absurd (omega arith)
-    ; unshown = refl }
+    record {
+      few-lines = omega arith;
+      few-inputs = omega arith;
+      counted = λ i h. absurd (omega arith);
+      filled = λ i h. absurd (omega arith);
+      fed = λ i p h. absurd (omega arith);
+      numbered = λ i h. absurd (omega arith);
+      named = refl;
+      short = λ i h. absurd (omega arith);
+      distinct = λ i j lt h. absurd (omega arith);
+      unshown = refl;
+    }
 
 fits-input : (ls : List Line) → Fits ls (Input (inputsIn ls))
 fits-input ls = record { counted = (omega arith, omega arith); filled = refl; fed = λ p h. absurd (omega arith); numbered = λ _. refl }
@@ -90,7 +94,7 @@ pub pins-below : (l : Line) (n : ℕ) → ((p : ℕ) → p < pinCount l → pinF
 pins-below (Input j) n h = tt
 pins-below (Gate g) n h =
     all-from-getD (λ i. i < n) (take (g .count) (g .pins)) 0
-      (λ i lt. let s : i < g .count = omega (arith, length-take (g .count) (g .pins)) in rw (getD-take (g .count) (g .pins) i 0 s) (h i s))
+    (λ i lt. let s : i < g .count = omega (arith, length-take (g .count) (g .pins)) in rw (getD-take (g .count) (g .pins) i 0 s) (h i s))
 
 driver-same : (p q : Plan) (n : List ℕ) (l : Line) → All (λ i. name-at p i ≡ name-at q i) (pinsOf l) → driver p n l ≡ driver q n l
 driver-same p q n (Input j) h = refl
@@ -111,10 +115,10 @@ drivers-push p (x ∷ ns) n (m ∷ ls) l h = ap (λ ds. driver p x m ∷ ds) (dr
 drivers-kept : (p : Plan) (w : List ℕ) (l : Line) → Grown p → drivers (with-line p w l) (p .names) (p .lines) ≡ drivers p (p .names) (p .lines)
 drivers-kept p w l g =
     drivers-same (with-line p w l) p (p .names) (p .lines)
-      (all-from-getD _ (p .lines) shape.blank
-        (λ i lt. all-weaker (λ k. k < i) (λ k. name-at (with-line p w l) k ≡ name-at p k)
-          (λ k below. getD-append-left (p .names) (w ∷ []) [] k (omega (arith, g .named)))
-          (pinsOf (getD (p .lines) i shape.blank)) (pins-below (getD (p .lines) i shape.blank) i (λ n. g .fed i n lt))))
+    (all-from-getD _ (p .lines) shape.blank
+    (λ i lt. all-weaker (λ k. k < i) (λ k. name-at (with-line p w l) k ≡ name-at p k)
+    (λ k below. getD-append-left (p .names) (w ∷ []) [] k (omega (arith, g .named)))
+    (pinsOf (getD (p .lines) i shape.blank)) (pins-below (getD (p .lines) i shape.blank) i (λ n. g .fed i n lt))))
 
 drivers-with-line : (p : Plan) (w : List ℕ) (l : Line) (s : Said) → Grown p → driver (with-line p w l) w l ≡ s → drivers (with-line p w l) (p .names ++ w ∷ []) (p .lines ++ l ∷ []) ≡ drivers p (p .names) (p .lines) ++ s ∷ []
 drivers-with-line p w l s g e =
@@ -151,9 +155,10 @@ adds-input p q n g e =
     let made = d .2 in
     let z : with-line p w l ≡ q = cc in
     let inputs = leb-false 64 (inputsIn (p .lines)) (c .0) in
-    subst (Adds p (input (n .bytes) ∷ [])) z
-      (grown-push p w l g (fits-input (p .lines)) (s .0) (room-ok p n (b .0) (b .1)) (omega arith) (subst (λ w. find (p .names) w ≡ None) (s .1) (undriven-ok p n (d .0) (d .1))),
-       drivers-with-line p w l (input (n .bytes)) g (ap input (sym (s .1))))
+    subst (Adds p (input (n .bytes) ∷ [])) z (
+      grown-push p w l g (fits-input (p .lines)) (s .0) (room-ok p n (b .0) (b .1)) (omega arith) (subst (λ w. find (p .names) w ≡ None) (s .1) (undriven-ok p n (d .0) (d .1))),
+      drivers-with-line p w l (input (n .bytes)) g (ap input (sym (s .1))),
+    )
 
 gate-driver : (p : Plan) (w : List ℕ) (k : Kind) (ns : List Named) (ls : List ℕ) → All (λ i. i < length (p .names)) ls → map (name-at p) ls ≡ map bytes-at ns → driver (with-line p w (Gate (gateOf k ls))) w (Gate (gateOf k ls)) ≡ gate w k (map bytes-at ns)
 gate-driver p w k ns ls h e =
@@ -177,9 +182,10 @@ adds-gate p q n k ns g f e =
     let low : All (λ i. i < length (p .lines)) ls = subst (λ n. All (λ i. i < n) ls) (g .named) (found .0) in
     let made = r .2 in
     let z : with-line p w l ≡ q = cc in
-    subst (Adds p (gate (n .bytes) k (map bytes-at ns) ∷ [])) z
-      (grown-push p w l g (fits-gate (p .lines) k ls (subst (λ n. fits k n ≡ true) size f) low) (s .0) (room-ok p n (b .0) (b .1)) (omega (arith, g .few-inputs)) (subst (λ w. find (p .names) w ≡ None) (s .1) (undriven-ok p n (d .0) (d .1))),
-       drivers-with-line p w l (gate (n .bytes) k (map bytes-at ns)) g (gate-driver p w k ns ls (found .0) (found .1) ∙ ap (λ w. gate w k (map bytes-at ns)) (sym (s .1))))
+    subst (Adds p (gate (n .bytes) k (map bytes-at ns) ∷ [])) z (
+      grown-push p w l g (fits-gate (p .lines) k ls (subst (λ n. fits k n ≡ true) size f) low) (s .0) (room-ok p n (b .0) (b .1)) (omega (arith, g .few-inputs)) (subst (λ w. find (p .names) w ≡ None) (s .1) (undriven-ok p n (d .0) (d .1))),
+      drivers-with-line p w l (gate (n .bytes) k (map bytes-at ns)) g (gate-driver p w k ns ls (found .0) (found .1) ∙ ap (λ w. gate w k (map bytes-at ns)) (sym (s .1))),
+    )
 
 adds : (p : Plan) (m : ℕ) (t : State) (st : Stmt) → Grown p → All Fitting (said-of st) → drive p m st ≡ Ok t → Adds p (said-of st) (t .plan)
 adds p m t stmt.blank g f e = let z : p ≡ t .plan = cc in subst (Adds p []) z (g, sym (append-nil _))
@@ -244,7 +250,7 @@ shows-output p q n e =
     let r = b .1 in
     let z : with-output p l ≡ q = cc in
     subst (Shows p (output (n .bytes) ∷ [])) z
-      (record { shown = l ∷ []; after = refl; within = (f .0, tt); named = ap (λ w. output w ∷ []) (sym (f .1)); few = λ _. omega (arith, length-push (p .outputs) l) })
+    (record { shown = l ∷ []; after = refl; within = (f .0, tt); named = ap (λ w. output w ∷ []) (sym (f .1)); few = λ _. omega (arith, length-push (p .outputs) l) })
 
 shows : (p q : Plan) (st : Stmt) → show p st ≡ Ok q → Shows p (said-of st) q
 shows p q stmt.blank e = let z : p ≡ q = cc in subst (Shows p []) z (shows-none p [] refl)
@@ -261,11 +267,13 @@ shows-more p q r ss ts a b =
     let y = append-assoc (p .outputs) (a .shown) (b .shown) in
     let w : All (λ o. o < length (p .names)) (b .shown) = subst (λ ns. All (λ o. o < length ns) (b .shown)) ns (b .within) in
     let m : showing ts ≡ map (λ o. output (name-at p o)) (b .shown) = subst (λ ns. showing ts ≡ map (λ o. output (getD ns o [])) (b .shown)) ns (b .named) in
-    record { shown = a .shown ++ b .shown
-    ; after = cc
-    ; within = all-append (λ o. o < length (p .names)) (a .shown) (b .shown) (a .within) w
-    ; named = showing-append ss ts ∙ ap (λ s. s ++ showing ts) (a .named) ∙ ap (λ s. map (λ o. output (name-at p o)) (a .shown) ++ s) m ∙ sym (map-append (λ o. output (name-at p o)) (a .shown) (b .shown))
-    ; few = λ h. b .few (a .few h) }
+    record {
+      shown = a .shown ++ b .shown;
+      after = cc;
+      within = all-append (λ o. o < length (p .names)) (a .shown) (b .shown) (a .within) w;
+      named = showing-append ss ts ∙ ap (λ s. s ++ showing ts) (a .named) ∙ ap (λ s. map (λ o. output (name-at p o)) (a .shown) ++ s) m ∙ sym (map-append (λ o. output (name-at p o)) (a .shown) (b .shown));
+      few = λ h. b .few (a .few h);
+    }
 
 shown : (s t : State) (sts : List Stmt) → fold Show s sts ≡ Ok t → Shows (s .plan) (said sts) (t .plan)
 shown s t [] e = let z : s .plan ≡ t .plan = cc in subst (Shows (s .plan) []) z (shows-none (s .plan) [] refl)
@@ -294,21 +302,25 @@ whole-ok q p e =
 makes-shown : (q : Plan) (os : List ℕ) (ss : List Said) → Grown q → driving ss ≡ drivers q (q .names) (q .lines) → showing ss ≡ map (λ o. output (name-at q o)) os → All (λ o. o < length (q .names)) os
     → 1 ≤ inputsIn (q .lines) → 1 ≤ length os → length os ≤ 63 → Makes ss (record { lines = q .lines; names = q .names; outputs = os })
 makes-shown q os ss g d s within inputs outputs few =
-    record { sound = record { few-lines = g .few-lines
-      ; some-input = inputs
-      ; few-inputs = g .few-inputs
-      ; some-output = outputs
-      ; few-outputs = few
-      ; counted = g .counted
-      ; filled = g .filled
-      ; fed = g .fed
-      ; numbered = g .numbered
-      ; shown = λ j h. subst (λ n. getD os j 0 < n) (g .named) (all-getD (λ o. o < length (q .names)) os j 0 h within)
-      ; named = g .named
-      ; short = g .short
-      ; distinct = g .distinct }
-    ; lines = d ∙ drivers-by-names q (record { lines = q .lines; names = q .names; outputs = os }) (q .names) (q .lines) refl
-    ; outputs = s }
+    record {
+      sound = record {
+        few-lines = g .few-lines;
+        some-input = inputs;
+        few-inputs = g .few-inputs;
+        some-output = outputs;
+        few-outputs = few;
+        counted = g .counted;
+        filled = g .filled;
+        fed = g .fed;
+        numbered = g .numbered;
+        shown = λ j h. subst (λ n. getD os j 0 < n) (g .named) (all-getD (λ o. o < length (q .names)) os j 0 h within);
+        named = g .named;
+        short = g .short;
+        distinct = g .distinct;
+      };
+      lines = d ∙ drivers-by-names q (record { lines = q .lines; names = q .names; outputs = os }) (q .names) (q .lines) refl;
+      outputs = s;
+    }
 
 pub makes : (s t : State) (p : Plan) (sts : List Stmt) → All Fitting (said sts) → fold Drive start sts ≡ Ok s → fold Show s sts ≡ Ok t → whole (t .plan) ≡ Ok p → Makes (said sts) p
 makes s t p sts f e1 e2 e3 =
@@ -324,4 +336,4 @@ makes s t p sts f e1 e2 e3 =
     let some : 1 ≤ length (t .plan .outputs) = w .1 in
     let inputs : 1 ≤ inputsIn (q .lines) = subst (λ ls. 1 ≤ inputsIn ls) ls (w .0) in
     subst (Makes (said sts)) z
-      (makes-shown q (b .shown) (said sts) (a .0) (sym (a .1)) (b .named) (b .within) inputs (omega (arith, ap length os)) (omega (arith, ap length os)))
+    (makes-shown q (b .shown) (said sts) (a .0) (sym (a .1)) (b .named) (b .within) inputs (omega (arith, ap length os)) (omega (arith, ap length os)))

@@ -83,11 +83,12 @@ words-first : (l e : ℕ) (s : List ℕ) → gap s ≡ 0 → (first (words l e 0
 words-first l e [] g = (ap (λ c. at l c end) (omega arith), refl)
 words-first l e (b ∷ bs) g =
     let k : ℕ = cond (name-byte b) (run name-byte bs) 0 in
-    let w = words-cons l e b bs g in
-    (ap first w,
-     ap after w
-     ∙ ap (λ v. cond v (at l (e - suc (length bs)) (first-word (b ∷ bs)) ∷ words l e k bs) (words l e k bs)) (not-end b bs)
-     ∙ words-skip l e k bs)
+    let w = words-cons l e b bs g in (
+      ap first w,
+      ap after w
+          ∙ ap (λ v. cond v (at l (e - suc (length bs)) (first-word (b ∷ bs)) ∷ words l e k bs) (words l e k bs)) (not-end b bs)
+          ∙ words-skip l e k bs,
+    )
 
 -- all of it: the gap, then the first word
 module _ (l e : ℕ) (s text left : List ℕ) (n : ℕ) (back : text ≡ drop (gap s) s) (size : n ≡ first-size text) (after-it : left ≡ drop n text) where

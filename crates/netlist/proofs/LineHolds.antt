@@ -156,12 +156,12 @@ next-pin-ok ts b =
     let P : Result Bool Refusal → Type 0 = λ r. r ≡ Ok b → After-pin s t b in
     cond-both (sameSort (sort-of (s .word)) sort.Comma) _ _ P
     (λ h e. let p = bind-ok (want-name t) (λ _. Ok true) b e in
-      let z : b ≡ true = cc (p .2) in
-      inl (word-sorted (s .word) sort.Comma h, want-name-word t (p .0) (p .1), z))
+    let z : b ≡ true = cc (p .2) in
+    inl (word-sorted (s .word) sort.Comma h, want-name-word t (p .0) (p .1), z))
     (λ _. cond-both (sameSort (sort-of (s .word)) sort.Close) _ _ P
     (λ h e. let p = bind-ok (want t sort.End) (λ _. Ok false) b e in
-      let z : b ≡ false = cc (p .2) in
-      inr (word-sorted (s .word) sort.Close h, want-ok t sort.End tt (p .1), z))
+    let z : b ≡ false = cc (p .2) in
+    inr (word-sorted (s .word) sort.Close h, want-ok t sort.End tt (p .1), z))
     (λ _ e. clash (cc)))
 
 ends-alone : {t : Tok} → Ends (t ∷ []) → t .word ≡ end
@@ -279,8 +279,8 @@ statement-told ts st r =
     cond-both (is-end (first ts .word)) _ _ (λ v. v ≡ Ok st → Told (said ts) (said-of st))
     (λ h e. let z : stmt.blank ≡ st = cc in subst (λ v. Told (said ts) (said-of v)) z (end-first r h))
     (λ _ e. let p = bind-ok (want-name (first ts)) f st e in
-      let s = said-first (name (p .0 .bytes)) r (want-name-ok (first ts) (p .0) (p .1)) refl in
-      subst (λ ws. Told ws (said-of st)) (sym (s .0)) (form-told (p .0) (after ts) st (s .1) (p .2)))
+    let s = said-first (name (p .0 .bytes)) r (want-name-ok (first ts) (p .0) (p .1)) refl in
+    subst (λ ws. Told ws (said-of st)) (sym (s .0)) (form-told (p .0) (after ts) st (s .1) (p .2)))
 
 pins-plain : (ns : List (List ℕ)) → All Plain (pin-words ns)
 pins-plain [] = (tt, tt)

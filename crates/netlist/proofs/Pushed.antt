@@ -30,10 +30,10 @@ use Rattle.netlist.proofs.Said.{bytes-at}
 pub every-push : {X : Type 0} (d : X) (P : ℕ → X → Type 0) (xs : List X) (x : X) → ((i : ℕ) → i < length xs → P i (getD xs i d)) → P (length xs) x → (i : ℕ) → i < length (xs ++ x ∷ []) → P i (getD (xs ++ x ∷ []) i d)
 every-push d P xs x h here i lt =
     ⊎-elim (λ below. subst (P i) (sym (getD-append-left xs (x ∷ []) d i below)) (h i below))
-      (λ over.
-        let e : length xs ≡ i = omega (arith, length-push xs x) in
-        subst (P i) (sym (getD-push xs x d i e)) (subst (λ k. P k x) e here))
-      (cases-lt i (length xs))
+    (λ over.
+    let e : length xs ≡ i = omega (arith, length-push xs x) in
+    subst (P i) (sym (getD-push xs x d i e)) (subst (λ k. P k x) e here))
+    (cases-lt i (length xs))
 
 module _ (ls : List Line) (l : Line) (ok : Fits ls l) where
   pub counted-push : Counted ls → Counted (ls ++ l ∷ [])
@@ -48,15 +48,15 @@ module _ (ls : List Line) (l : Line) (ok : Fits ls l) where
   pub numbered-push : Numbered ls → Numbered (ls ++ l ∷ [])
   numbered-push h =
       every-push blank (λ i x. isInput x ≡ true → inputAt x ≡ inputsIn (take i (ls ++ l ∷ []))) ls l
-        (λ i lt. rw (take-append-le i ls (l ∷ []) (omega arith)) (h i lt))
-        (rw (take-at ls (l ∷ []) (length ls) refl) (ok .numbered))
+      (λ i lt. rw (take-append-le i ls (l ∷ []) (omega arith)) (h i lt))
+      (rw (take-at ls (l ∷ []) (length ls) refl) (ok .numbered))
 
 pub distinct-push : (ns : List (List ℕ)) (w : List ℕ) → Distinct ns → find ns w ≡ None → Distinct (ns ++ w ∷ [])
 distinct-push ns w h f i j lt within =
     every-push [] (λ k x. (i : ℕ) → i < k → getD (ns ++ w ∷ []) i [] ≡ x → ⊥) ns w
-      (λ k below i lt e. h i k lt below (sym (getD-append-left ns (w ∷ []) [] i (omega arith)) ∙ e))
-      (λ i lt e. none-at ns w f i lt (sym (getD-append-left ns (w ∷ []) [] i lt) ∙ e))
-      j within i lt
+    (λ k below i lt e. h i k lt below (sym (getD-append-left ns (w ∷ []) [] i (omega arith)) ∙ e))
+    (λ i lt e. none-at ns w f i lt (sym (getD-append-left ns (w ∷ []) [] i lt) ∙ e))
+    j within i lt
 
 pub inputs-append : (ls ms : List Line) → inputsIn (ls ++ ms) ≡ inputsIn ls + inputsIn ms
 inputs-append [] ms = omega arith
@@ -72,10 +72,12 @@ shown-push os o n lt h = every-push 0 (λ i x. x < n) os o h lt
 pub fits-gate : (ls : List Line) (k : Kind) (ps : List ℕ) → fits k (length ps) ≡ true → All (λ i. i < length ls) ps → Fits ls (Gate (gateOf k ps))
 fits-gate ls k ps f h =
     let c = and-parts (leb (least k) (length ps)) (leb (length ps) (most k)) f in
-    record { counted = (leb-true (least k) (length ps) (c .0), leb-true (length ps) (most k) (c .1))
-    ; filled = ap padded (sym (take-at ps _ (length ps) refl))
-    ; fed = λ p lt. rw (getD-append-left ps _ 0 p lt) (all-getD (λ i. i < length ls) ps p 0 lt h)
-    ; numbered = λ e. absurd (both-ways false refl e) }
+    record {
+      counted = (leb-true (least k) (length ps) (c .0), leb-true (length ps) (most k) (c .1));
+      filled = ap padded (sym (take-at ps _ (length ps) refl));
+      fed = λ p lt. rw (getD-append-left ps _ 0 p lt) (all-getD (λ i. i < length ls) ps p 0 lt h);
+      numbered = λ e. absurd (both-ways false refl e);
+    }
 
 -- the pins found are lines, and their names are those asked for
 pub resolved : (names : List (List ℕ)) (ns : List Named) (ls : List ℕ) → resolve names ns ≡ Ok ls → All (λ i. i < length names) ls × (map (λ i. getD names i []) ls ≡ map bytes-at ns)

@@ -62,10 +62,11 @@ abbrev pub Open-from : ℕ → List ℕ → Type 0
 Open-from p found = (length found ≡ 4) × (drop p found ≡ replicate (4 - p) 0)
 
 pub open-step : (p l : ℕ) (found : List ℕ) → p < 4 → Open-from p found → Open-from (p + 1) (set found p l)
-open-step p l found lt (len, rest) =
-    (simp lib.ListN.length-set len,
-     drop-set-lt (p + 1) found p l (omega arith) ∙ sym (drop-drop 1 p found) ∙ ap (drop 1) rest ∙ drop-replicate 1 (4 - p) 0
-     ∙ ap (λ k. replicate k 0) (less p lt))
+open-step p l found lt (len, rest) = (
+  simp lib.ListN.length-set len,
+  drop-set-lt (p + 1) found p l (omega arith) ∙ sym (drop-drop 1 p found) ∙ ap (drop 1) rest ∙ drop-replicate 1 (4 - p) 0
+      ∙ ap (λ k. replicate k 0) (less p lt),
+)
   where
     less : (p : ℕ) → p < 4 → 4 - p - 1 ≡ 4 - (p + 1)
     less p lt = omega arith

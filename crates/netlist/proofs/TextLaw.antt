@@ -35,10 +35,12 @@ module _ (text : List ℕ) (p : Plan) where
       let c = bind-ok (tell Show 1 (b .0) (lines-of text)) _ p (b .2) in
       let r = told-read Drive 1 start (b .0) (lines-of text) (b .1) in
       let x = lines-text line-law 1 text (r .1) in
-      record { short = ltb-false 65536 (length text) (a .0)
-      ; statements = said (r .0)
-      ; spelt = x .0
-      ; make = makes (b .0) (c .0) p (r .0) (x .1) (sym (read-tell Drive start (r .1)) ∙ b .1) (sym (read-tell Show (b .0) (r .1)) ∙ c .1) (c .2) }
+      record {
+        short = ltb-false 65536 (length text) (a .0);
+        statements = said (r .0);
+        spelt = x .0;
+        make = makes (b .0) (c .0) p (r .0) (x .1) (sym (read-tell Drive start (r .1)) ∙ b .1) (sym (read-tell Show (b .0) (r .1)) ∙ c .1) (c .2);
+      }
 
   accepts-text : Accepted text p → meaning text ≡ Ok p
   accepts-text h =
@@ -60,6 +62,8 @@ told (Err d) p q e = let z : _≡_ {A = ℕ} 0 1 = cc in absurd (omega arith)
 pub lawful : (text : List ℕ) (r : Result (Unit {0}) Refusal) (p : Plan) → outcome r p ≡ meaning text → Lawful text r p
 lawful text r p e =
     let granted : r ≡ Ok tt → Accepted text p = λ ok. accepted-text text p (sym e ∙ ap (λ r. outcome r p) ok) in
-    record { accepts = λ q h. told r p q (e ∙ accepts-text text q h)
-    ; accepted = granted
-    ; found = λ ok i lt. find-at i (p .names) _ lt refl (λ k below same. granted ok .make .sound .distinct k i below lt same) }
+    record {
+      accepts = λ q h. told r p q (e ∙ accepts-text text q h);
+      accepted = granted;
+      found = λ ok i lt. find-at i (p .names) _ lt refl (λ k below same. granted ok .make .sound .distinct k i below lt same);
+    }

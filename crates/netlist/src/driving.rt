@@ -15,9 +15,9 @@ ghost use Rattle.netlist.specs.Tokens.{toks};
 ghost use Rattle.netlist.specs.Statements.{named, labels, bind, stmt-of, fitted};
 ghost use Rattle.netlist.specs.Driving.{Fits, with-line, outcome, counted, spelt, want-short, want-room, want-undriven, short-pins, resolve, drive-input, drive-gate, ask-output, show-output, drive, show};
 use crate::statements::Label;
-use crate::statements::next_label;
 use crate::statements::Pins;
 use crate::statements::Statement;
+use crate::statements::next_label;
 use circuit::Draft;
 use circuit::Gate;
 use circuit::Kind;
@@ -110,7 +110,12 @@ fn find_pins(draft: &Draft, pins: Pins<'_>) -> Result<[u16; 4], Refusal>
     Ok(found)
 }
 
-fn drive_gate(draft: &mut Draft, label: Label<'_>, kind: Kind, pins: Pins<'_>) -> Result<(), Refusal>
+fn drive_gate(
+    draft: &mut Draft,
+    label: Label<'_>,
+    kind: Kind,
+    pins: Pins<'_>,
+) -> Result<(), Refusal>
     requires { ⌜ fits kind (pins .count) ≡ true ⌝ }
     ensures { λ r. ⌜ outcome r (plan-of (now (draft .exit))) ≡ drive-gate (plan-of (now (draft .entry))) (named (label .entry)) kind (labels (pins .entry .count) (toks (pins .entry .scanner))) ⌝ }
 {
@@ -119,7 +124,11 @@ fn drive_gate(draft: &mut Draft, label: Label<'_>, kind: Kind, pins: Pins<'_>) -
     want_short_pins(pins)?;
     want_undriven(draft, label)?;
     let found = find_pins(draft, pins)?;
-    let gate = Gate { kind, pins: found, count: pins.count as u8 };
+    let gate = Gate {
+        kind,
+        pins: found,
+        count: pins.count as u8,
+    };
     let inputs = draft.inputs;
     push_line(draft, name, Line::Gate(gate), inputs);
     Ok(())
@@ -151,7 +160,11 @@ fn show_output(draft: &mut Draft, label: Label<'_>) -> Result<(), Refusal>
 }
 
 // The first reading: lines are driven, and outputs only counted, since their lines may come later.
-pub(crate) fn drive(draft: &mut Draft, asked: usize, statement: Statement<'_>) -> Result<usize, Refusal>
+pub(crate) fn drive(
+    draft: &mut Draft,
+    asked: usize,
+    statement: Statement<'_>,
+) -> Result<usize, Refusal>
     requires { ⌜ fitted statement ≡ true ⌝ }
     ensures { λ r. ⌜ counted r (plan-of (now (draft .exit))) ≡ drive (plan-of (now (draft .entry))) asked (stmt-of (statement .entry)) ⌝ }
 {

@@ -12,8 +12,8 @@ ghost use Rattle.netlist.specs.Grammar.{Lawful};
 ghost use Rattle.netlist.specs.Reading.{in-line, lines-of, state, step, tell, filling, meaning};
 use crate::driving::drive;
 use crate::driving::show;
-use crate::statements::read_statement;
 use crate::statements::Statement;
+use crate::statements::read_statement;
 use crate::tokens::Scanner;
 use circuit::Circuit;
 use circuit::Draft;
@@ -49,7 +49,12 @@ fn past_end(s: &[u8]) -> &[u8]
 }
 
 // One statement in one of the readings; the answer is the number of outputs asked for.
-fn take(pass: Pass, draft: &mut Draft, asked: usize, statement: Statement<'_>) -> Result<usize, Refusal>
+fn take(
+    pass: Pass,
+    draft: &mut Draft,
+    asked: usize,
+    statement: Statement<'_>,
+) -> Result<usize, Refusal>
     requires { ⌜ fitted statement ≡ true ⌝ }
     ensures { λ r. ⌜ counted r (plan-of (now (draft .exit))) ≡ step pass (state (plan-of (now (draft .entry))) asked) (stmt-of (statement .entry)) ⌝ }
 {

@@ -191,5 +191,8 @@ pub(crate) fn next_label<'t>(sc: &mut Scanner<'t>) -> Label<'t>
 {
     let name = sc.next_token();
     let _sign = sc.next_token();
-    Label { bytes: name.bytes(), place: name.place() }
+    Label {
+        bytes: name.bytes(),
+        place: name.place(),
+    }
 }

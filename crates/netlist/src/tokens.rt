@@ -168,7 +168,11 @@ impl<'t> Scanner<'t> {
         ensures tokens { λ r. ⌜ toks r ≡ line-tokens line (now (bytes .entry)) ⌝ }
         ensures size { λ r. ⌜ left r ≡ length (now (bytes .entry)) ⌝ }
     {
-        Scanner { rest: bytes, line, end: bytes.len() + 1 }
+        Scanner {
+            rest: bytes,
+            line,
+            end: bytes.len() + 1,
+        }
     }
 
     pub(crate) fn next_token(&mut self) -> Token<'t>
@@ -178,7 +182,10 @@ impl<'t> Scanner<'t> {
         ensures size { λ _. ⌜ left (now (self .exit)) ≤ left (now (self .entry)) ⌝ }
     {
         let (_, text) = self.rest.split_at(gap_len(self.rest));
-        let place = Place { line: self.line, column: self.end.saturating_sub(text.len()) };
+        let place = Place {
+            line: self.line,
+            column: self.end.saturating_sub(text.len()),
+        };
         let (token, size) = first_token(text, place);
         let (_, left) = text.split_at(size);
         self.rest = left;

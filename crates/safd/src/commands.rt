@@ -12,6 +12,8 @@ pub(crate) enum Command<'a> {
     Check(&'a str),
     // Read a netlist many times and say how long one reading takes.
     Bench(&'a str),
+    // Go the whole way on a built-in card.
+    Tour,
     Unknown,
 }
 
@@ -20,6 +22,7 @@ pub(crate) const USAGE: &str = "usage: safd COMMAND
 commands:
   check NETLIST   read a netlist and print how many lines, inputs, outputs and gates it has, and its depth
   bench NETLIST   read a netlist many times and print the time of one reading
+  tour            read a built-in card and print what was found
   help            print this text
 ";
 
@@ -44,7 +47,13 @@ fn is(word: &str, other: &str) -> bool
 fn alone<'a>(word: &str) -> Command<'a>
     ensures { λ r. ⌜ asked r ≡ alone-of (now (word .entry)) ⌝ }
 {
-    if is(word, "help") { Command::Help } else { Command::Unknown }
+    if is(word, "help") {
+        return Command::Help;
+    }
+    if is(word, "tour") {
+        return Command::Tour;
+    }
+    Command::Unknown
 }
 
 // A command about a file.

@@ -5,8 +5,8 @@ mod messages;
 use circuit::Circuit;
 use circuit::Kind;
 use commands::Command;
-use commands::parse;
 use commands::USAGE;
+use commands::parse;
 use messages::kind_line;
 use messages::refusal_line;
 use messages::sizes;
@@ -15,6 +15,17 @@ use std::env;
 use std::error::AnyError;
 use std::fs;
 use std::time::Instant;
+
+// A card of three gates.
+const CARD: &str = "INPUT(a)
+INPUT(b)
+INPUT(c)
+OUTPUT(y)
+OUTPUT(z)
+m = NAND(a, b)
+y = OR(m, c)
+z = AND(m, c)
+";
 
 // How often a benchmark reads.
 const READINGS: u32 = 200;
@@ -29,20 +40,37 @@ fn load(rt: &LibcRuntime, file: &str) -> Result<Vec<u8>, AnyError> {
     }
 }
 
-// Reads a netlist; where it is refused, says where and why on standard error.
-fn check(rt: &LibcRuntime, file: &str) -> Result<(), AnyError> {
+fn print_counts(rt: &LibcRuntime, circuit: &Circuit) -> Result<(), AnyError> {
     let heap = rt.alloc();
-    let text = load(rt, file)?;
+    rt.print(sizes(heap, circuit)?)?;
+    for kind in Kind::ALL {
+        rt.print(kind_line(heap, circuit, kind)?)?;
+    }
+    Ok(())
+}
+
+// Reads a netlist and prints what it has; where it is refused, says where and why on standard error.
+fn report(rt: &LibcRuntime, file: &str, text: &[u8]) -> Result<(), AnyError> {
+    let heap = rt.alloc();
     let mut circuit = Circuit::new(heap)?;
-    if let Err(refusal) = read(text.as_slice(), &mut circuit) {
+    if let Err(refusal) = read(text, &mut circuit) {
         rt.eprintln(refusal_line(heap, file, refusal)?)?;
         return Err("refused".into());
     }
-    rt.print(sizes(heap, &circuit)?)?;
-    for kind in Kind::ALL {
-        rt.print(kind_line(heap, &circuit, kind)?)?;
-    }
-    Ok(())
+    print_counts(rt, &circuit)
+}
+
+fn check(rt: &LibcRuntime, file: &str) -> Result<(), AnyError> {
+    let text = load(rt, file)?;
+    report(rt, file, text.as_slice())
+}
+
+// The whole way on a built-in card, as far as the program goes.
+fn tour(rt: &LibcRuntime) -> Result<(), AnyError> {
+    println!(rt, "# the card's netlist:")?;
+    rt.print(CARD)?;
+    println!(rt, "# what was read:")?;
+    report(rt, "tour", CARD.as_bytes())
 }
 
 fn bench(rt: &LibcRuntime, file: &str) -> Result<(), AnyError> {
@@ -57,7 +85,10 @@ fn bench(rt: &LibcRuntime, file: &str) -> Result<(), AnyError> {
     }
     let spent = start.elapsed(rt)?.as_micros() / u128::from(READINGS);
     let bytes = text.len();
-    println!(rt, "{bytes} bytes, {READINGS} readings, {accepted} accepted: {spent} microseconds a reading")?;
+    println!(
+        rt,
+        "{bytes} bytes, {READINGS} readings, {accepted} accepted: {spent} microseconds a reading"
+    )?;
     Ok(())
 }
 
@@ -70,8 +101,12 @@ fn main(rt: LibcRuntime) -> Result<(), AnyError> {
         }
         Command::Check(file) => check(&rt, file),
         Command::Bench(file) => bench(&rt, file),
+        Command::Tour => tour(&rt),
         Command::Unknown => {
-            eprintln!(rt, "safd: there is no such command, or it has too few or too many words.")?;
+            eprintln!(
+                rt,
+                "safd: there is no such command, or it has too few or too many words."
+            )?;
             rt.eprint(USAGE)?;
             Err("usage".into())
         }

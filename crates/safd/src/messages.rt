@@ -40,7 +40,10 @@ pub(crate) fn refusal_line(heap: Global, file: &str, refusal: Refusal) -> Result
     let number = refusal.number();
     let word = refusal.word();
     let sentence = sentence(refusal);
-    format!(heap, "{file}:{line}:{column}: refusal {number}, {word}: {sentence}")
+    format!(
+        heap,
+        "{file}:{line}:{column}: refusal {number}, {word}: {sentence}"
+    )
 }
 
 // How many lines, inputs and outputs a circuit has, and how deep it is.
@@ -51,7 +54,10 @@ pub(crate) fn sizes(heap: Global, circuit: &Circuit) -> Result<String, AllocErro
     let inputs = circuit.inputs();
     let outputs = circuit.outputs();
     let depth = circuit.depth();
-    format!(heap, "lines {lines}\ninputs {inputs}\noutputs {outputs}\ndepth {depth}\n")
+    format!(
+        heap,
+        "lines {lines}\ninputs {inputs}\noutputs {outputs}\ndepth {depth}\n"
+    )
 }
 
 // How many gates of a kind a circuit has.

@@ -18,7 +18,12 @@ impl Draft {
         let lines = Vec::with_capacity(heap, 1024)?;
         let names = Vec::with_capacity(heap, 1024)?;
         let outputs = Vec::with_capacity(heap, 63)?;
-        Ok(Draft { lines, names, outputs, inputs: 0 })
+        Ok(Draft {
+            lines,
+            names,
+            outputs,
+            inputs: 0,
+        })
     }
 
     pub fn clear(&mut self)

@@ -1,6 +1,8 @@
 ghost use mathlib.Core.Path.{_≡_};
 ghost use mathlib.Core.List.{map};
+ghost use Prim.Native.Nat.{_<_};
 ghost use lib.ListN.{length};
+ghost use Rattle.std.specs.Options.{Cases};
 ghost use Rattle.circuit.specs.Names.{find, print-of};
 ghost use Rattle.circuit.specs.Spelled.{bytes-of, Short};
 ghost use Rattle.std.specs.shelf.Text.{sameBytes};
@@ -54,7 +56,8 @@ fn is(name: &Name, word: &[u8], print: u64) -> bool
 
 // The first place at which a word stands among the names.
 pub(crate) fn find(names: &[Name], word: &[u8]) -> Option<usize>
-    ensures { λ r. ⌜ r ≡ find (map bytes-of (now (names .entry))) (now (word .entry)) ⌝ }
+    ensures value { λ r. ⌜ r ≡ find (map bytes-of (now (names .entry))) (now (word .entry)) ⌝ }
+    ensures within { λ r. ⌜ Cases r (Unit {0}) (λ i. i < length (now (names .entry))) ⌝ }
 {
     let print = print_of(word);
     for (i, n) in names.iter().enumerate() {

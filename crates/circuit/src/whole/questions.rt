@@ -1,10 +1,13 @@
 ghost use mathlib.Core.Path.{_≡_};
+ghost use mathlib.Core.List.{map};
+ghost use mathlib.Core.Bool.{true, false};
+ghost use lib.Dec.{eqb};
 ghost use lib.ListN.{length};
 ghost use Rattle.std.specs.Vec.{made};
 ghost use Rattle.std.specs.shelf.Maps.{nth};
 ghost use Rattle.circuit.specs.Names.{find};
 ghost use Rattle.circuit.specs.Shape.{inputsIn};
-ghost use Rattle.circuit.specs.Plans.{plan, empty, pinsAt, hasSite};
+ghost use Rattle.circuit.specs.Plans.{plan, empty, Sound, pinsAt, hasSite};
 ghost use Rattle.circuit.specs.Spelled.{bytes-of};
 ghost use Rattle.std.specs.Options.{mapped};
 use super::Circuit;
@@ -28,6 +31,15 @@ impl Circuit {
         ensures { λ _. ⌜ plan (now (self .exit)) ≡ empty ⌝ }
     {
         self.draft.clear();
+    }
+
+    // Every circuit is empty, or sound.
+    pub fn is_empty(&self) -> bool
+        ensures value { λ r. ⌜ r ≡ eqb (length (plan (now (self .entry)) .lines)) 0 ⌝ }
+        ensures empty { λ r. ⌜ (r ≡ true → plan (now (self .entry)) ≡ empty) ⌝ }
+        ensures sound { λ r. ⌜ (r ≡ false → Sound (plan (now (self .entry)))) ⌝ }
+    {
+        self.draft.lines.is_empty()
     }
 
     pub fn lines(&self) -> usize
@@ -65,7 +77,7 @@ impl Circuit {
     pub fn name(&self, number: usize) -> Option<Name>
         ensures { λ r. ⌜ mapped bytes-of r ≡ nth (plan (now (self .entry)) .names) number ⌝ }
     {
-        at(self.draft.names.as_slice(), number)
+        name_at(self.draft.names.as_slice(), number)
     }
 
     // The line of a name.
@@ -100,5 +112,16 @@ fn pins_at(line: Option<Line>) -> u8
 fn at<T: Copy>(items: &[T], place: usize) -> Option<T>
     ensures { λ r. ⌜ r ≡ nth (now (items .entry)) place ⌝ }
 {
-    if place < items.len() { Some(items[place]) } else { None }
+    if place < items.len() {
+        Some(items[place])
+    } else {
+        None
+    }
+}
+
+// The name at a place, or nothing past the end.
+fn name_at(names: &[Name], place: usize) -> Option<Name>
+    ensures { λ r. ⌜ mapped bytes-of r ≡ nth (map bytes-of (now (names .entry))) place ⌝ }
+{
+    at(names, place)
 }

@@ -41,7 +41,7 @@ push-line-requires c κs =
       room = search needs;
       fresh = fresh-name (plan-of d) (named (c .args .label)) _ (c .in-Continue-name .ensures tt) (c .in-Continue-want-undriven .ensures tt);
       line = subst (Fits (vec-items (d .lines))) (sym (p .3)) (fits-gate (vec-items (d .lines)) (c .args .kind) (p .0) (ap (fits (c .args .kind)) (p .2) ∙ c .pre) (subst (λ n. All (λ i. i < n) (p .0)) same (resolved (plan-of d .names) (pin-labels b) (p .0) (p .1) .0)));
-      inputs = (omega (arith, inputs-append (vec-items (d .lines)) (line-of b ∷ []), d .tallied), search needs)
+      inputs = (omega (arith, inputs-append (vec-items (d .lines)) (line-of b ∷ []), d .tallied), search needs);
     }
 
 pub returns : need.returns

@@ -18,5 +18,5 @@ push-line-requires c κs =
       room = search needs;
       fresh = fresh-name (plan-of d) (named (c .args .label)) _ (c .in-Continue-name .ensures tt) (c .in-Continue-want-undriven .ensures tt);
       line = record { counted = (search needs, search needs); filled = refl; fed = λ p lt. absurd (omega arith); numbered = λ _. d .tallied };
-      inputs = (omega (arith, inputs-append ls (Input (d .inputs) ∷ []), d .tallied), search needs)
+      inputs = (omega (arith, inputs-append ls (Input (d .inputs) ∷ []), d .tallied), search needs);
     }

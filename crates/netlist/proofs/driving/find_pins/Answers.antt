@@ -29,7 +29,7 @@ returns-in-None c =
     let place = c .next-label-label .result .place in
     let rest = resolve (names-in b) (labels (c .args .pins .count - c .loop-p .p - 1) (toks (c .next-label-label .last .sc))) in
     ap (λ r. bind (prepend (take (c .loop-p .p) (c .loop-p .found)) r) (λ ls. Ok (padded ls)))
-      (sym (turn b ∙ ap (λ o. bind (okOr o (UnknownPin place)) (λ l. bind rest (λ ls. Ok (l ∷ ls)))) (sym (c .in-None .ensures tt .value))))
+    (sym (turn b ∙ ap (λ o. bind (okOr o (UnknownPin place)) (λ l. bind rest (λ ls. Ok (l ∷ ls)))) (sym (c .in-None .ensures tt .value))))
     ∙ ap (λ r. bind r (λ ls. Ok (padded ls))) (c .loop-p .inv .0)
 
 pub loop-p-again : need.loop-p-again
@@ -40,13 +40,14 @@ loop-p-again c =
     let found = c .loop-p .found in
     let us = toks (c .next-label-label .last .sc) in
     let e : n - (p + 1) ≡ n - p - 1 = omega arith in
-    let rest = resolve (names-in b) (labels (n - p - 1) us) in
-    (ap (λ k. prepend (take (p + 1) (lib.ListN.set found p (c .in-Some .line))) (resolve (names-in b) (labels k us))) e
-     ∙ ap (λ xs. prepend xs rest) (take-more-set found p (c .in-Some .line) (omega (arith, c .loop-p .inv .1 .0)))
-     ∙ sym (prepend-push (take p found) (c .in-Some .line) rest)
-     ∙ ap (prepend (take p found)) (sym (turn b ∙ ap (λ o. bind (okOr o (UnknownPin (c .next-label-label .result .place))) (λ l. bind rest (λ ls. Ok (l ∷ ls)))) (sym (c .in-Some .ensures tt .value))))
-     ∙ c .loop-p .inv .0,
-     open-step p (c .in-Some .line) found (omega arith) (c .loop-p .inv .1))
+    let rest = resolve (names-in b) (labels (n - p - 1) us) in (
+      ap (λ k. prepend (take (p + 1) (lib.ListN.set found p (c .in-Some .line))) (resolve (names-in b) (labels k us))) e
+          ∙ ap (λ xs. prepend xs rest) (take-more-set found p (c .in-Some .line) (omega (arith, c .loop-p .inv .1 .0)))
+          ∙ sym (prepend-push (take p found) (c .in-Some .line) rest)
+          ∙ ap (prepend (take p found)) (sym (turn b ∙ ap (λ o. bind (okOr o (UnknownPin (c .next-label-label .result .place))) (λ l. bind rest (λ ls. Ok (l ∷ ls)))) (sym (c .in-Some .ensures tt .value))))
+          ∙ c .loop-p .inv .0,
+      open-step p (c .in-Some .line) found (omega arith) (c .loop-p .inv .1),
+    )
 
 pub returns : need.returns
 returns c =

@@ -11,5 +11,5 @@ use Rattle.netlist.proofs.driving.find_pins.Given as given
 abbrev pub Inv-loop-p : given.InvT-loop-p
 Inv-loop-p l =
     (prepend (take (l .p) (l .found)) (resolve (plan-of (l .draft) .names) (labels (l .pins .count - l .p) (toks (l .scanner))))
-      ≡ resolve (plan-of (l .draft) .names) (labels (l .pins .count) (toks (l .pins .scanner))))
+    ≡ resolve (plan-of (l .draft) .names) (labels (l .pins .count) (toks (l .pins .scanner))))
     × Open-from (l .p) (l .found)

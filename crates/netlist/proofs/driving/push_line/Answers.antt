@@ -20,11 +20,40 @@ ghost-draft c =
     let l = c .args .line in
     let e : ms ≡ ls ++ l ∷ [] = c .push-reserved .ensures .items in
     let ok = c .pre .line in
-    let names : map bytes-of (vec-items (c .push-reserved-2 .last .self)) ≡ map bytes-of (vec-items (d .names)) ++ bytes-of (c .args .name) ∷ [] = ap (map bytes-of) (c .push-reserved-2 .ensures .items) ∙ map-push bytes-of (vec-items (d .names)) (c .args .name) in
-    (search needs, (search needs, (search needs, (c .pre .inputs .0 ∙ ap inputsIn (sym e), (search needs, (search needs,
-    (shown-more (vec-items (d .outputs)) _ _ (omega (arith, c .push-reserved .ensures .len)) (d .shown),
-    (subst Counted (sym e) (counted-push ls l ok (d .counted)), (subst Filled (sym e) (filled-push ls l ok (d .filled)), (subst Fed (sym e) (fed-push ls l ok (d .fed)), (subst Numbered (sym e) (numbered-push ls l ok (d .numbered)),
-    (subst Distinct (sym names) (distinct-push (map bytes-of (vec-items (d .names))) (bytes-of (c .args .name)) (d .distinct) (c .pre .fresh)), tt))))))))))))
+    let names : map bytes-of (vec-items (c .push-reserved-2 .last .self)) ≡ map bytes-of (vec-items (d .names)) ++ bytes-of (c .args .name) ∷ [] = ap (map bytes-of) (c .push-reserved-2 .ensures .items) ∙ map-push bytes-of (vec-items (d .names)) (c .args .name) in (
+      search needs,
+      (
+        search needs,
+        (
+          search needs,
+          (
+            c .pre .inputs .0 ∙ ap inputsIn (sym e),
+            (
+              search needs,
+              (
+                search needs,
+                (
+                  shown-more (vec-items (d .outputs)) _ _ (omega (arith, c .push-reserved .ensures .len)) (d .shown),
+                  (
+                    subst Counted (sym e) (counted-push ls l ok (d .counted)),
+                    (
+                      subst Filled (sym e) (filled-push ls l ok (d .filled)),
+                      (
+                        subst Fed (sym e) (fed-push ls l ok (d .fed)),
+                        (
+                          subst Numbered (sym e) (numbered-push ls l ok (d .numbered)),
+                          (subst Distinct (sym names) (distinct-push (map bytes-of (vec-items (d .names))) (bytes-of (c .args .name)) (d .distinct) (c .pre .fresh)), tt),
+                        ),
+                      ),
+                    ),
+                  ),
+                ),
+              ),
+            ),
+          ),
+        ),
+      ),
+    )
 
 pub returns : need.returns
 returns c =

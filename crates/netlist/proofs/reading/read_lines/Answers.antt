@@ -45,12 +45,13 @@ loop-rest-again c =
     let r = c .loop-rest .rest .now in
     let n = run in-line r in
     let s : n + 1 ≡ suc n = omega arith in
-    let left : c .past-end-rest .result .now ≡ drop (suc n) r = c .past-end-rest .ensures ∙ ap (drop 1) (c .split-at .ensures .back ∙ ap (λ k. drop k r) (c .line-len .ensures .run)) ∙ drop-drop 1 n r ∙ ap (λ k. drop k r) s in
-    (ap (λ x. tell (c .args .pass) (c .loop-rest .line + 1) (state (plan-of (c .take .last .draft)) (c .in-Continue-asked .asked)) (lines-of x)) left
-      ∙ sym (taken (c .args .pass) (c .loop-rest .line) (state (plan-of (c .loop-rest .draft)) (c .loop-rest .asked)) r (some b) (stmt-of (c .in-Continue-statement .statement)) _ (c .in-Continue-statement .ensures tt .value ∙ said b) (c .in-Continue-asked .ensures tt))
-      ∙ c .loop-rest .inv .0,
-     omega arith,
-     omega (arith, ap length left, length-drop (suc n) r, some b, c .loop-rest .inv .1, c .loop-rest .inv .2))
+    let left : c .past-end-rest .result .now ≡ drop (suc n) r = c .past-end-rest .ensures ∙ ap (drop 1) (c .split-at .ensures .back ∙ ap (λ k. drop k r) (c .line-len .ensures .run)) ∙ drop-drop 1 n r ∙ ap (λ k. drop k r) s in (
+      ap (λ x. tell (c .args .pass) (c .loop-rest .line + 1) (state (plan-of (c .take .last .draft)) (c .in-Continue-asked .asked)) (lines-of x)) left
+          ∙ sym (taken (c .args .pass) (c .loop-rest .line) (state (plan-of (c .loop-rest .draft)) (c .loop-rest .asked)) r (some b) (stmt-of (c .in-Continue-statement .statement)) _ (c .in-Continue-statement .ensures tt .value ∙ said b) (c .in-Continue-asked .ensures tt))
+          ∙ c .loop-rest .inv .0,
+      omega arith,
+      omega (arith, ap length left, length-drop (suc n) r, some b, c .loop-rest .inv .1, c .loop-rest .inv .2),
+    )
 
 pub loop-rest-less : need.loop-rest-less
 loop-rest-less c =

@@ -26,15 +26,22 @@ returns-in-Break-next-pin c =
 
 pub add-count : need.add-count
 add-count c =
-    omega (arith, turn (toks (c .loop-count .sc)) (yes-pin c) .1, c .loop-count .inv .1,
-      words-length (c .next-token .last .self .line) (c .next-token .last .self .end) 0 (c .next-token .last .self .rest .now), c .next-token .ensures .size, c .pre)
+    omega (
+      arith,
+      turn (toks (c .loop-count .sc)) (yes-pin c) .1,
+      c .loop-count .inv .1,
+      words-length (c .next-token .last .self .line) (c .next-token .last .self .end) 0 (c .next-token .last .self .rest .now),
+      c .next-token .ensures .size,
+      c .pre,
+    )
 
 pub loop-count-again : need.loop-count-again
 loop-count-again c =
     let t = turn (toks (c .loop-count .sc)) (yes-pin c) .1 in
-    let r : toks (c .next-pin .last .sc) ≡ after (after (toks (c .loop-count .sc))) = c .next-pin .ensures .rest (yes-pin c) in
-    (sym (one-more (c .loop-count .count) (toks (c .loop-count .sc)) (toks (c .next-pin .last .sc)) (yes-pin c) r) ∙ c .loop-count .inv .0,
-     omega (arith, t, c .loop-count .inv .1, ap length r))
+    let r : toks (c .next-pin .last .sc) ≡ after (after (toks (c .loop-count .sc))) = c .next-pin .ensures .rest (yes-pin c) in (
+      sym (one-more (c .loop-count .count) (toks (c .loop-count .sc)) (toks (c .next-pin .last .sc)) (yes-pin c) r) ∙ c .loop-count .inv .0,
+      omega (arith, t, c .loop-count .inv .1, ap length r),
+    )
 
 pub loop-count-less : need.loop-count-less
 loop-count-less c =
