@@ -10,6 +10,13 @@ use crate::names::Name;
 
 mod making;
 
+// The limits of a circuit.
+pub const MAX_LINES: usize = 1024;
+
+pub const MAX_INPUTS: usize = 64;
+
+pub const MAX_OUTPUTS: usize = 63;
+
 // Its fields are open to the reader that fills it: the facts below hold at each step, whoever writes.
 #[derive(Drop)]
 pub struct Draft {

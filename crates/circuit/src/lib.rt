@@ -8,6 +8,9 @@ mod refusals;
 mod whole;
 
 pub use drafts::Draft;
+pub use drafts::MAX_INPUTS;
+pub use drafts::MAX_LINES;
+pub use drafts::MAX_OUTPUTS;
 pub use faults::Fault;
 pub use faults::FaultPartialEq;
 pub use faults::Site;
@@ -16,6 +19,7 @@ pub use kinds::Kind;
 pub use kinds::KindPartialEq;
 pub use lines::Gate;
 pub use lines::Line;
+pub use names::MAX_NAME;
 pub use names::Name;
 pub use refusals::Layer;
 pub use refusals::LayerPartialEq;

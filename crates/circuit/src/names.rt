@@ -8,9 +8,12 @@ mod naming;
 
 pub(crate) use naming::find;
 
+// The most bytes that a name has.
+pub const MAX_NAME: usize = 16;
+
 #[derive(Clone, Copy)]
 pub struct Name {
-    bytes: [u8; 16],
+    bytes: [u8; MAX_NAME],
     len: usize,
     // Equal names have equal prints, so unequal prints tell names apart at once.
     print: u64,

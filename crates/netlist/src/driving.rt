@@ -22,6 +22,10 @@ use circuit::Draft;
 use circuit::Gate;
 use circuit::Kind;
 use circuit::Line;
+use circuit::MAX_INPUTS;
+use circuit::MAX_LINES;
+use circuit::MAX_NAME;
+use circuit::MAX_OUTPUTS;
 use circuit::Name;
 use circuit::Refusal;
 
@@ -50,7 +54,7 @@ fn want_short(label: Label<'_>) -> Result<Name, Refusal>
 fn want_room(draft: &Draft, label: Label<'_>) -> Result<(), Refusal>
     ensures { λ r. ⌜ r ≡ want-room (plan-of (now (draft .entry))) (named (label .entry)) ⌝ }
 {
-    if draft.lines.len() >= 1024 {
+    if draft.lines.len() >= MAX_LINES {
         return Err(Refusal::ManyLines(label.place));
     }
     Ok(())
@@ -71,7 +75,7 @@ fn drive_input(draft: &mut Draft, label: Label<'_>) -> Result<(), Refusal>
     let name = want_short(label)?;
     want_room(draft, label)?;
     let inputs = draft.inputs;
-    if inputs >= 64 {
+    if inputs >= MAX_INPUTS {
         return Err(Refusal::ManyInputs(label.place));
     }
     want_undriven(draft, label)?;
@@ -86,7 +90,7 @@ fn want_short_pins(pins: Pins<'_>) -> Result<(), Refusal>
     let mut scanner = pins.scanner;
     for _p in 0..pins.count {
         let label = next_label(&mut scanner);
-        if label.bytes.len() > 16 {
+        if label.bytes.len() > MAX_NAME {
             return Err(Refusal::LongName(label.place));
         }
     }
@@ -139,7 +143,7 @@ fn ask_output(asked: usize, label: Label<'_>) -> Result<usize, Refusal>
     ensures { λ r. ⌜ r ≡ ask-output asked (named (label .entry)) ⌝ }
 {
     want_short(label)?;
-    if asked >= 63 {
+    if asked >= MAX_OUTPUTS {
         return Err(Refusal::ManyOutputs(label.place));
     }
     Ok(asked + 1)
@@ -152,7 +156,7 @@ fn show_output(draft: &mut Draft, label: Label<'_>) -> Result<(), Refusal>
     let Some(line) = draft.line_of(label.bytes) else {
         return Err(Refusal::UnknownOutput(label.place));
     };
-    if draft.outputs.len() >= 63 {
+    if draft.outputs.len() >= MAX_OUTPUTS {
         return Err(Refusal::ManyOutputs(label.place));
     }
     draft.outputs.push_reserved(line as u16);

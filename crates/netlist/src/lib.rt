@@ -4,4 +4,5 @@ mod reading;
 mod statements;
 mod tokens;
 
+pub use reading::MAX_TEXT;
 pub use reading::read;

@@ -19,6 +19,9 @@ use circuit::Circuit;
 use circuit::Draft;
 use circuit::Refusal;
 
+// The most bytes that a text has.
+pub const MAX_TEXT: usize = 65_536;
+
 // The first reading drives the lines; the second shows the outputs, whose lines may come after them.
 #[derive(Clone, Copy)]
 pub(crate) enum Pass {
@@ -89,7 +92,7 @@ fn read_lines(pass: Pass, text: &[u8], draft: &mut Draft, start: usize) -> Resul
 fn fill(text: &[u8], draft: &mut Draft) -> Result<(), Refusal>
     ensures { λ r. ⌜ outcome r (plan-of (now (draft .exit))) ≡ filling (plan-of (now (draft .entry))) (now (text .entry)) ⌝ }
 {
-    if text.len() > 65536 {
+    if text.len() > MAX_TEXT {
         return Err(Refusal::LongText);
     }
     let asked = read_lines(Pass::Drive, text, draft, 0)?;

@@ -1,11 +1,15 @@
 ghost use mathlib.Core.Path.{_≡_};
 ghost use Prim.Native.Nat.{_<_};
+ghost use lib.Dec.{eqb};
+ghost use lib.ListN.{length};
 ghost use Rattle.std.specs.Of.Vec.{vec-len};
 ghost use Rattle.std.specs.Options.{Cases};
 ghost use Rattle.std.specs.Vec.{made};
 ghost use Rattle.circuit.specs.Names.{find};
 ghost use Rattle.circuit.specs.Plans.{plan-of, empty};
 use super::Draft;
+use super::MAX_LINES;
+use super::MAX_OUTPUTS;
 use crate::names;
 use std::alloc::AllocError;
 use std::alloc::Global;
@@ -15,9 +19,9 @@ impl Draft {
     pub fn new(heap: Global) -> Result<Draft, AllocError>
         ensures { λ r. ⌜ made r (λ d. plan-of d ≡ empty) ⌝ }
     {
-        let lines = Vec::with_capacity(heap, 1024)?;
-        let names = Vec::with_capacity(heap, 1024)?;
-        let outputs = Vec::with_capacity(heap, 63)?;
+        let lines = Vec::with_capacity(heap, MAX_LINES)?;
+        let names = Vec::with_capacity(heap, MAX_LINES)?;
+        let outputs = Vec::with_capacity(heap, MAX_OUTPUTS)?;
         Ok(Draft {
             lines,
             names,
@@ -33,6 +37,12 @@ impl Draft {
         self.lines.clear();
         self.names.clear();
         self.inputs = 0;
+    }
+
+    pub(crate) fn is_empty(&self) -> bool
+        ensures { λ r. ⌜ r ≡ eqb (length (plan-of (now (self .entry)) .lines)) 0 ⌝ }
+    {
+        self.lines.is_empty()
     }
 
     // The line of a name.

@@ -6,6 +6,7 @@ ghost use Rattle.std.specs.Options.{Cases};
 ghost use Rattle.circuit.specs.Names.{find, print-of};
 ghost use Rattle.circuit.specs.Spelled.{bytes-of, Short};
 ghost use Rattle.std.specs.shelf.Text.{sameBytes};
+use super::MAX_NAME;
 use super::Name;
 
 fn same(a: &[u8], b: &[u8]) -> bool
@@ -30,10 +31,10 @@ impl Name {
         ensures { λ r. ⌜ Short (now (word .entry)) r ⌝ }
     {
         let len = word.len();
-        if len > 16 {
+        if len > MAX_NAME {
             return None;
         }
-        let mut bytes = [0; 16];
+        let mut bytes = [0; MAX_NAME];
         bytes[0..len].copy_from_slice(word);
         let print = print_of(word);
         Some(Name { bytes, len, print })

@@ -39,7 +39,7 @@ impl Circuit {
         ensures empty { λ r. ⌜ (r ≡ true → plan (now (self .entry)) ≡ empty) ⌝ }
         ensures sound { λ r. ⌜ (r ≡ false → Sound (plan (now (self .entry)))) ⌝ }
     {
-        self.draft.lines.is_empty()
+        self.draft.is_empty()
     }
 
     pub fn lines(&self) -> usize

@@ -14,10 +14,10 @@ use Rattle.netlist.proofs.driving.want_short_pins.Needs.{After-next-label-labe
 turn : (c : After-next-label-label) → short-pins (labels (c .args .pins .count - c .loop-p .-p) (toks (c .loop-p .scanner))) ≡ unless (long (named (c .next-label-label .result))) (LongName (c .next-label-label .result .place)) (short-pins (labels (c .args .pins .count - c .loop-p .-p - 1) (toks (c .next-label-label .last .sc))))
 turn c = short-turn (c .args .pins .count - c .loop-p .-p) (toks (c .loop-p .scanner)) (toks (c .next-label-label .last .sc)) (named (c .next-label-label .result)) (omega arith) (c .next-label-label .ensures .label) (c .next-label-label .ensures .rest)
 
-pub returns-then-label-gt16 : need.returns-then-label-gt16
-returns-then-label-gt16 c =
+pub returns-then-label-gt-MAX-NAME : need.returns-then-label-gt-MAX-NAME
+returns-then-label-gt-MAX-NAME c =
     let rest = short-pins (labels (c .args .pins .count - c .loop-p .-p - 1) (toks (c .next-label-label .last .sc))) in
-    sym (turn (need.at·returns-then-label-gt16 c .After-next-label-label) ∙ ap (λ b. unless b (LongName (c .next-label-label .result .place)) rest) (lt-ltb 16 _ (c .if-label-gt16 .taken))) ∙ c .loop-p .inv
+    sym (turn (need.at·returns-then-label-gt-MAX-NAME c .After-next-label-label) ∙ ap (λ b. unless b (LongName (c .next-label-label .result .place)) rest) (lt-ltb 16 _ (c .if-label-gt-MAX-NAME .taken))) ∙ c .loop-p .inv
 
 pub loop-p-again : need.loop-p-again
 loop-p-again c =
@@ -25,7 +25,7 @@ loop-p-again c =
     let us = toks (c .next-label-label .last .sc) in
     let e : n - (c .loop-p .-p + 1) ≡ n - c .loop-p .-p - 1 = omega arith in
     ap (λ k. short-pins (labels k us)) e
-    ∙ sym (turn (need.at·loop-p-again c .After-next-label-label) ∙ ap (λ b. unless b (LongName (c .next-label-label .result .place)) (short-pins (labels (n - c .loop-p .-p - 1) us))) (le-ltb 16 _ (c .if-label-gt16 .left)))
+    ∙ sym (turn (need.at·loop-p-again c .After-next-label-label) ∙ ap (λ b. unless b (LongName (c .next-label-label .result .place)) (short-pins (labels (n - c .loop-p .-p - 1) us))) (le-ltb 16 _ (c .if-label-gt-MAX-NAME .left)))
     ∙ c .loop-p .inv
 
 pub returns : need.returns

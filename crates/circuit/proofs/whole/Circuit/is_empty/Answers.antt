@@ -1,4 +1,4 @@
-use mathlib.Core.Path.{_≡_, sym, ap, _∙_}
+use mathlib.Core.Path.{_≡_, sym, _∙_}
 use native.Mathlib.Omega.{arith}
 use lib.Dec.{eqb}
 use lib.ListN.{length}
@@ -11,7 +11,7 @@ pub returns : need.returns
 returns c =
     let s = c .args .self .now in
     let n = length (plan s .lines) in
-    let e : c .is-empty .result ≡ eqb n 0 = c .is-empty .ensures ∙ ap (λ k. eqb k 0) (s .draft .lines .ok .0) in
+    let e : c .is-empty .result ≡ eqb n 0 = c .is-empty .ensures in
     record {
       value = e;
       empty = λ t. empty-of s (eqb-true n 0 (sym e ∙ t));
