@@ -5,6 +5,7 @@ ghost use Rattle.circuit.specs.Plans.{plan};
 ghost use Rattle.circuit.specs.Shape.{Counted, Fed, pinCount, pinsOf};
 ghost use Rattle.circuit.specs.Survey.{isOf, gatesOf, highest, under, levelOf, depthOf, Levelled, FedBelow};
 use super::Circuit;
+use crate::drafts::MAX_LINES;
 use crate::kinds::Kind;
 use crate::kinds::KindPartialEq;
 use crate::lines::Gate;
@@ -56,14 +57,12 @@ fn highest_level(lines: &[Line]) -> usize
     requires fed { ⌜ Fed (now lines) ⌝ }
     ensures { λ r. ⌜ r ≡ depthOf (now (lines .entry)) ⌝ }
 {
-    let mut table = [0; 1024];
+    let mut table = [0; MAX_LINES];
     let mut top: usize = 0;
     for (i, line) in lines.iter().enumerate() {
         let level = level_of(*line, &table[..i]);
         table[i] = level;
-        if top < level {
-            top = level;
-        }
+        top = top.max(level);
     }
     top
 }
@@ -90,9 +89,7 @@ fn highest_pin(gate: Gate, before: &[usize]) -> usize
     let mut top: usize = 0;
     for p in 0..gate.count {
         let level = before[gate.pins[p as usize] as usize];
-        if top < level {
-            top = level;
-        }
+        top = top.max(level);
     }
     top
 }

@@ -1,7 +1,9 @@
 use mathlib.Core.Path.{_≡_, sym, ap, _∙_}
 use native.Mathlib.Omega.{arith}
-use lib.ListN.{length}
-use Rattle.std.proofs.shelf.Lists.{take-at}
+use mathlib.Core.List.{_++_}
+use Prim.Native.Nat.{_-_}
+use lib.ListN.{length, drop, replicate}
+use Rattle.std.proofs.shelf.Lists.{take-at, drop-replicate}
 use Rattle.circuit.specs.Names.{print-of}
 use Rattle.circuit.proofs.names.Name.new.Needs as need
 
@@ -13,4 +15,8 @@ ghost-result c =
 pub returns : need.returns
 returns c =
     let copied = c .copy-from-slice .ensures .after in
-    take-at _ _ _ (ap length copied) ∙ copied
+    let w = c .args .word .now in
+    let left : 16 - (length w - 0) ≡ 16 - length w = omega arith in (
+      take-at _ _ _ (ap length copied) ∙ copied,
+      ap (λ ys. ys ++ drop (length w - 0) (replicate 16 0)) copied ∙ ap (λ ys. w ++ ys) (drop-replicate (length w - 0) 16 0 ∙ ap (λ k. replicate k 0) left),
+    )

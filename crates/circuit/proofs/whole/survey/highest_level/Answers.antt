@@ -7,7 +7,6 @@ use Rattle.circuit.specs.Shape.{blank}
 use Rattle.circuit.specs.Survey.{highest, levels-from}
 use Rattle.circuit.proofs.Levels.{highest-push, level-low, levels-step}
 use Rattle.circuit.proofs.whole.survey.highest_level.Needs as need
-use Rattle.circuit.proofs.whole.survey.highest_level.Needs.{then-top-level, else-top-level}
 
 pub loop-i-again : need.loop-i-again
 loop-i-again c =
@@ -16,7 +15,7 @@ loop-i-again c =
     let level = c .level-of-level .result in
     let room : i < length table = omega arith in
     let grown = take-more-set table i level room in
-    let risen : c .if-top-level .top ≡ max (c .loop-i .top) level = elim (c .if-top-level .came) [ then-top-level w ↦ omega (arith, w .top-is) | else-top-level w ↦ omega (arith, w .top-is) ] in (
+    let risen : c .max-top .result ≡ max (c .loop-i .top) level = c .max-top .ensures in (
       omega (arith, length-set table i level),
       omega (arith, level-low (take i table) (getD (c .args .lines .now) i blank), c .level-of-level .ensures),
       omega (arith, ap highest grown, highest-push (take i table) level),

@@ -7,17 +7,13 @@ use Rattle.std.proofs.shelf.Lists.{at-drop-all, length-take}
 use Rattle.circuit.specs.Survey.{highest, under}
 use Rattle.circuit.proofs.Levels.{highest-step}
 use Rattle.circuit.proofs.whole.survey.highest_pin.Needs as need
-use Rattle.circuit.proofs.whole.survey.highest_pin.Needs.{then-top-level, else-top-level}
 
 pub loop-p-again : need.loop-p-again
 loop-p-again c =
     let four : length (c .args .gate .pins) ≡ 4 = search needs in
     let in-pins : c .loop-p .p < length (take (c .args .gate .count) (c .args .gate .pins)) = simp length-take (omega arith) in
     let step = highest-step (c .args .before .now) (c .args .gate .pins) (c .args .gate .count) (c .loop-p .p) (c .loop-p-test .taken) in-pins in
-    elim (c .if-top-level .came) [
-      | then-top-level w ↦ omega (arith, w .top-is, step)
-      | else-top-level w ↦ omega (arith, w .top-is, step)
-    ]
+    omega (arith, c .max-top .ensures, step)
 
 pub returns : need.returns
 returns c =
