@@ -1,5 +1,5 @@
 -- The register of refusals: number, word, place and layer of each.
-use mathlib.Core.Bool.{cond}
+use mathlib.Core.Bool.{Bool, true, false, cond}
 use mathlib.Core.List.{List}
 use Prim.Native.Nat.{ℕ}
 use lib.Dec.{eqb}
@@ -70,3 +70,19 @@ layer-of (ManyInputs p) = Statement
 layer-of (ManyOutputs p) = Statement
 layer-of NoInput = Netlist
 layer-of NoOutput = Netlist
+
+-- what is refused is the text as a whole, and not something that stands in it
+abbrev pub of-text : Refusal → Bool
+of-text (Misform p) = false
+of-text (NoKind p) = false
+of-text (WrongPins p) = false
+of-text (UnknownPin p) = false
+of-text (UnknownOutput p) = false
+of-text (Redriven p) = false
+of-text LongText = true
+of-text (LongName p) = false
+of-text (ManyLines p) = false
+of-text (ManyInputs p) = false
+of-text (ManyOutputs p) = false
+of-text NoInput = true
+of-text NoOutput = true

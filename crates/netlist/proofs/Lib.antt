@@ -14,3 +14,5 @@ pub mod TextLines
 pub mod Drawn
 pub mod Drawing
 pub mod TextLaw
+pub mod TokenPlaces
+pub mod TextPlaces

@@ -1,13 +1,16 @@
 -- What a text means: the circuit of its statements, or the refusal.
-use mathlib.Core.Bool.{Bool, not}
+use mathlib.Core.Path.{_≡_}
+use mathlib.Core.Bool.{Bool, false, not}
 use mathlib.Core.List.{List, [], _∷_}
-use Prim.Native.Nat.{ℕ, zero, suc, _+_}
+use Prim.Native.Nat.{ℕ, zero, suc, _+_, _-_, _≤_}
 use lib.Dec.{eqb, ltb}
-use lib.ListN.{length, take}
+use lib.ListN.{length, getD, take}
 use Rattle.std.specs.declared.result.Result.{Result}
 use Rattle.std.specs.declared.result.Result.the-variants.{Ok, Err}
+use Rattle.circuit.specs.Refusals.{of-text, place-of}
 use Rattle.circuit.specs.Shape.{inputsIn}
 use Rattle.circuit.specs.Plans.{Plan, empty}
+use Rattle.circuit.specs.declared.refusals.Place.{Place}
 use Rattle.circuit.specs.declared.refusals.Refusal.{Refusal}
 use Rattle.circuit.specs.declared.refusals.Refusal.the-variants.{LongText, NoInput, NoOutput}
 use Rattle.netlist.specs.Tokens.{run, line-tokens}
@@ -56,3 +59,14 @@ filling p text =
 
 abbrev pub meaning : List ℕ → Result Plan Refusal
 meaning text = filling empty text
+
+-- a place in a text: one of its lines, at one of its bytes or where the line ends
+pub record Within (text : List ℕ) (p : Place) : Type 0 where
+  pub line-from : 1 ≤ p .line
+  pub line-to : p .line ≤ length (lines-of text)
+  pub column-from : 1 ≤ p .column
+  pub column-to : p .column ≤ length (getD (lines-of text) (p .line - 1) []) + 1
+
+-- a refusal of something in the text has its place in the text
+abbrev pub Placed : List ℕ → Refusal → Type 0
+Placed text e = of-text e ≡ false → Within text (place-of e)

@@ -9,7 +9,7 @@ ghost use Rattle.netlist.specs.Tokens.{run};
 ghost use Rattle.netlist.specs.Statements.{stmt-of, fitted};
 ghost use Rattle.netlist.specs.Driving.{outcome, counted};
 ghost use Rattle.netlist.specs.Grammar.{Lawful};
-ghost use Rattle.netlist.specs.Reading.{in-line, lines-of, state, step, tell, filling, meaning};
+ghost use Rattle.netlist.specs.Reading.{in-line, lines-of, state, step, tell, filling, meaning, Placed};
 use crate::driving::drive;
 use crate::driving::show;
 use crate::statements::Statement;
@@ -110,6 +110,7 @@ fn fill(text: &[u8], draft: &mut Draft) -> Result<(), Refusal>
 pub fn read(text: &[u8], circuit: &mut Circuit) -> Result<(), Refusal>
     ensures value { λ r. ⌜ outcome r (plan (now (circuit .exit))) ≡ meaning (now (text .entry)) ⌝ }
     ensures emptied { λ r. ⌜ refused r (λ _. plan (now (circuit .exit)) ≡ empty) ⌝ }
+    ensures placed { λ r. ⌜ refused r (λ e. Placed (now (text .entry)) e) ⌝ }
     ensures law { λ r. ⌜ Lawful (now (text .entry)) r (plan (now (circuit .exit))) ⌝ }
 {
     circuit.draft.clear();
