@@ -28,6 +28,7 @@ use Rattle.netlist.specs.Statements as stmt
 use Rattle.netlist.specs.Statements.{Named, bind, want, want-name, one-name, next-pin, plus, more-pins, pins, labels, spells, kind-of, want-kind, Stmt, unless, gate-of, form-of, by-form, statement-of}
 use Rattle.netlist.specs.Grammar.{Said, input, output, gate, pin-words, words-of, Proper, Holds, none, one}
 use Rattle.netlist.proofs.Said.{bytes-at, said-of, Fitting}
+use Rattle.netlist.proofs.Risen.{bind-ok, unless-ok, okOr-ok}
 use Rattle.netlist.proofs.Gaps.{not-end}
 use Rattle.netlist.proofs.Spelling.{said, Plain, words-spell}
 use Rattle.netlist.proofs.LineWords.{clash, spells-is, spells-no, kind-back, more-words, pin-words-more}
@@ -92,25 +93,13 @@ word-sorted : (w : Word) (s : Sort) → sameSort (sort-of w) s ≡ true → w �
 word-sorted w s h = sorted-is w ∙ ap (λ a. sorted a (spelling w)) (same-sort (sort-of w) s h)
 
 -- what went before a good result
-bind-ok : {X Y : Type 0} (r : Result X Refusal) (f : X → Result Y Refusal) (y : Y) → bind r f ≡ Ok y → (x : X) × (r ≡ Ok x) × (f x ≡ Ok y)
-bind-ok (Ok x) f y e = (x, refl, e)
-bind-ok (Err d) f y e = clash (cc)
-
 cond-ok : {X : Type 0} (b : Bool) (x y : X) (d : Refusal) → cond b (Ok x) (Err d) ≡ Ok y → (b ≡ true) × (x ≡ y)
 cond-ok true x y d e = (refl, cc)
 cond-ok false x y d e = clash (cc)
 
-unless-ok : {X : Type 0} (b : Bool) (d : Refusal) (r : Result X Refusal) (y : X) → unless b d r ≡ Ok y → (b ≡ false) × (r ≡ Ok y)
-unless-ok true d r y e = clash (cc)
-unless-ok false d r y e = (refl, e)
-
 plus-ok : (r : Result ℕ Refusal) (n : ℕ) → plus 1 r ≡ Ok n → (m : ℕ) × (r ≡ Ok m) × (suc m ≡ n)
 plus-ok (Ok m) n e = let z : 1 + m ≡ n = cc in (m, refl, omega arith)
 plus-ok (Err d) n e = clash (cc)
-
-kind-ok : (o : Option Kind) (d : Refusal) (k : Kind) → okOr o d ≡ Ok k → o ≡ Some k
-kind-ok (Some j) d k e = let z : j ≡ k = cc in ap (λ i. Some i) z
-kind-ok None d k e = clash (cc)
 
 want-ok : (t : Tok) (s : Sort) (u : Unit {0}) → want t s ≡ Ok u → t .word ≡ sorted s (spelling (t .word))
 want-ok t s u e = word-sorted (t .word) s (cond-ok _ _ _ _ e .0)
@@ -248,7 +237,7 @@ module _ (n : Named) (ts : List Tok) (st : Stmt) (r : Ends ts) where
       let z : stmt.gate n k (labels c ts₃) ≡ st = cc (u .1) in
       let s = three-said ts equals (w .bytes) open-sign r refl refl (want-ok (first ts) sort.Equals tt (p .2)) (want-name-ok (first ts₁) w (p .3)) (want-ok (first ts₂) sort.Open tt (p .4)) in
       let ps = pins-ok ts₃ c (s .1) (p .5) in
-      let g = kind-back (w .bytes) k (kind-ok (kind-of (w .bytes)) (NoKind (w .place)) k (q .1)) in
+      let g = kind-back (w .bytes) k (okOr-ok (kind-of (w .bytes)) (NoKind (w .place)) k (q .1)) in
       let many : length ns ≡ c = length-map (labels c ts₃) bytes-at ∙ length-labels c ts₃ in
       let said-is : said ts ≡ equals ∷ name (kind-word k) ∷ open-sign ∷ pin-words ns ++ end ∷ [] = s .0 ∙ (λ j. equals ∷ name (g j) ∷ open-sign ∷ ps .1 j) in
       subst (λ v. Told (name (n .bytes) ∷ said ts) (said-of v)) z
