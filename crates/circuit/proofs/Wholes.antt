@@ -1,13 +1,13 @@
 -- Every circuit is empty, or sound.
-use mathlib.Core.Path.{_≡_, refl, sym, ap, subst, _∙_}
+use mathlib.Core.Path.{_≡_, refl, sym, subst, _∙_}
 use mathlib.Core.List.{List, [], _∷_, map}
 use Prim.Native.Nat.{ℕ, zero, suc, _<_, _≤_}
 use native.Mathlib.Omega.{arith}
 use lib.ListN.{length, getD, length-take, length-map}
 use Rattle.std.proofs.shelf.Lists.{nil-from-length}
-use Rattle.std.specs.Of.Vec.{vec-items, vec-len}
+use Rattle.std.specs.Of.Vec.{vec-items}
 use Rattle.circuit.specs.Plans.{plan, empty, Sound}
-use Rattle.circuit.specs.Shape.{inputsIn, Shown}
+use Rattle.circuit.specs.Shape.{Shown}
 use Rattle.circuit.specs.Spelled.{bytes-of}
 use Rattle.circuit.specs.declared.names.Name.{Name}
 use Rattle.circuit.specs.declared.whole.Circuit.{Circuit}

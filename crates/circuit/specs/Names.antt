@@ -1,8 +1,7 @@
 -- Names of lines, and the first place at which one stands.
 use mathlib.Core.Bool.{cond}
 use mathlib.Core.List.{List, [], _∷_}
-use Prim.Native.Nat.{ℕ, suc, _+_, _*_, _%_, _^_}
-use lib.ListN.{length}
+use Prim.Native.Nat.{ℕ, _+_, _*_, _%_, _^_}
 use Rattle.std.specs.shelf.Text.{sameBytes}
 use Rattle.std.specs.declared.option.Option.{Option}
 use Rattle.std.specs.declared.option.Option.the-variants.{Some, None}

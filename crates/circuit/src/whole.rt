@@ -1,7 +1,6 @@
 // A circuit: empty, or whole.
-ghost use mathlib.Core.Path.{_≡_};
 ghost use Prim.Native.Nat.{_<_, _≤_};
-ghost use Rattle.std.specs.Of.Vec.{vec-items, vec-len};
+ghost use Rattle.std.specs.Of.Vec.{vec-len};
 use crate::drafts::Draft;
 
 mod questions;

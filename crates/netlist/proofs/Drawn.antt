@@ -1,32 +1,28 @@
 -- What the statements make, where none is refused.
 use mathlib.Core.Path.{_≡_, refl, sym, ap, subst, _∙_}
-use mathlib.Core.Bool.{Bool, true, false}
+use mathlib.Core.Bool.{true}
 use mathlib.Core.List.{List, [], _∷_, _++_, map}
-use mathlib.Core.Logic.{⊎-elim}
 use Prim.Native.Nat.{ℕ, _+_, _≤_, _<_}
 use native.Mathlib.Omega.{arith}
-use lib.Dec.{eqb, leb}
+use lib.Dec.{eqb}
 use lib.ListN.{length, getD, take}
-use Rattle.std.proofs.shelf.Lists.{append-assoc, append-nil, take-at, take-append-le, getD-append-left, getD-push, getD-take, length-push, length-take, length-map, map-append}
+use Rattle.std.proofs.shelf.Lists.{append-assoc, append-nil, take-at, getD-append-left, getD-take, length-push, length-take, length-map, map-append}
 use Rattle.std.proofs.shelf.Elements.{all-getD, all-from-getD, all-append, all-weaker}
-use Rattle.std.proofs.shelf.Tests.{cases-lt, and-parts, leb-true, leb-false, ltb-false, eqb-false, both-ways}
-use Rattle.std.specs.Options.{isSome, okOr}
+use Rattle.std.proofs.shelf.Tests.{leb-false, ltb-false, eqb-false}
+use Rattle.std.specs.Options.{okOr}
 use Rattle.std.specs.shelf.Lists.{All}
-use Rattle.std.specs.declared.option.Option.{Option}
-use Rattle.std.specs.declared.option.Option.the-variants.{Some, None}
-use Rattle.std.specs.declared.result.Result.{Result}
+use Rattle.std.specs.declared.option.Option.the-variants.{None}
 use Rattle.std.specs.declared.result.Result.the-variants.{Ok}
-use Rattle.circuit.specs.Gates.{fits, least, most}
+use Rattle.circuit.specs.Gates.{fits}
 use Rattle.circuit.specs.Names.{find}
 use Rattle.circuit.specs.Plans.{Plan, empty}
 use Rattle.circuit.specs.Shape as shape
-use Rattle.circuit.specs.Shape.{isInput, inputAt, pinCount, pinFrom, leastPins, mostPins, padded, gateOf, pinsOf, places, filled, inputsIn, Counted, Filled, Fed, Numbered, Distinct}
+use Rattle.circuit.specs.Shape.{pinCount, pinFrom, gateOf, pinsOf, filled, inputsIn, Counted, Filled, Fed, Numbered, Distinct}
 use Rattle.circuit.specs.declared.kinds.Kind.{Kind}
 use Rattle.circuit.specs.declared.lines.Line.{Line}
 use Rattle.circuit.specs.declared.lines.Line.the-variants.{Input, Gate}
-use Rattle.circuit.specs.declared.refusals.Refusal.{Refusal}
 use Rattle.netlist.specs.Statements as stmt
-use Rattle.netlist.specs.Statements.{Stmt, Named, bind, unless}
+use Rattle.netlist.specs.Statements.{Stmt, Named, bind}
 use Rattle.netlist.specs.Driving.{Fits, State, with-line, with-output, drive-input, drive-gate, ask-output, show-output, drive, show, short-pins, resolve, want-short, want-room, want-undriven, long, full, many-inputs, many-outputs, driven}
 use Rattle.netlist.specs.Grammar.{Said, input, output, gate, name-at, driver, drivers, driving, showing, Makes}
 use Rattle.netlist.proofs.Said.{said-of, bytes-at, Fitting, start}
@@ -35,7 +31,7 @@ use Rattle.netlist.specs.declared.reading.Pass.the-variants.{Drive, Show}
 use Rattle.netlist.proofs.Risen.{bind-ok, unless-ok, okOr-ok, not-some}
 use Rattle.netlist.proofs.Pushed.{every-push, counted-push, filled-push, fed-push, numbered-push, distinct-push, inputs-append, fits-gate, resolved}
 use Rattle.netlist.proofs.TextLines.{fold, said, all-parts}
-use Rattle.circuit.proofs.Found.{found-at, none-at}
+use Rattle.circuit.proofs.Found.{found-at}
 
 -- a circuit in the making, before its outputs
 record Grown (p : Plan) : Type 0 where

@@ -1,5 +1,5 @@
 -- What one call of `next_token` takes from a line's tokens.
-use mathlib.Core.Path.{_≡_, refl, sym, ap, subst, _∙_}
+use mathlib.Core.Path.{_≡_, refl, sym, ap, _∙_}
 use mathlib.Core.Bool.{Bool, true, false, cond}
 use mathlib.Core.List.{List, [], _∷_}
 use Prim.Native.Nat.{ℕ, zero, suc, _+_, _-_, _≤_, _<_}
@@ -8,7 +8,7 @@ use lib.Dec.{eqb}
 use lib.ListN.{length, getD, drop}
 use Rattle.std.proofs.shelf.Lists.{at-drop-more, at-drop-all, drop-all}
 use Rattle.std.proofs.shelf.Tests.{cond-both}
-use Rattle.netlist.specs.Tokens.{run, gap, space-byte, name-byte, words, at, name, end, open-sign, close-sign, comma, equals, stray, sign-word, first-word, first-size, is-end, first, after, Tok, Word}
+use Rattle.netlist.specs.Tokens.{run, gap, space-byte, name-byte, words, at, end, first-word, first-size, is-end, first, after, Tok, Word}
 
 module _ (s : List ℕ) (n : ℕ) where
   pub gap-hash : n < length s → getD s n 0 ≡ 35 → gap (drop n s) ≡ suc (length (drop (n + 1) s))

@@ -1,22 +1,18 @@
 -- A gate's pins, one name on.
-use mathlib.Core.Path.{_≡_, refl, sym, ap, subst, _∙_}
-use mathlib.Core.Bool.{Bool, true, false, cond}
+use mathlib.Core.Path.{_≡_, refl, sym, ap, _∙_}
 use mathlib.Core.List.{List, [], _∷_, _++_}
-use Prim.Native.Nat.{ℕ, zero, suc, _+_, _-_, _<_, _≤_, min}
+use Prim.Native.Nat.{ℕ, zero, suc, _+_, _-_, _<_, _≤_}
 use native.Mathlib.Omega.{arith}
-use lib.Dec.{leb}
-use lib.ListN.{length, getD, set, take, drop, replicate, length-take}
-use Rattle.std.proofs.shelf.Lists.{append-assoc, append-nil, take-append-drop, take-more-set, drop-set-lt, drop-replicate, drop-drop, length-take-le, length-append, length-replicate, length-map}
-use Rattle.std.specs.Options.{isSome, okOr}
-use Rattle.std.specs.declared.option.Option.{Option}
-use Rattle.std.specs.declared.option.Option.the-variants.{Some, None}
+use lib.ListN.{length, getD, set, take, drop, replicate}
+use Rattle.std.proofs.shelf.Lists.{append-assoc, take-append-drop, drop-set-lt, drop-replicate, drop-drop, length-take-le, length-map}
+use Rattle.std.specs.Options.{okOr}
+use Rattle.std.specs.declared.option.Option.the-variants.{None}
 use Rattle.std.specs.declared.result.Result.{Result}
 use Rattle.std.specs.declared.result.Result.the-variants.{Ok, Err}
 use Rattle.circuit.specs.Names.{find}
 use Rattle.circuit.specs.Shape.{padded, gateOf}
 use Rattle.circuit.specs.Plans.{Plan}
 use Rattle.circuit.specs.declared.kinds.Kind.{Kind}
-use Rattle.circuit.specs.declared.lines.Line.{Line}
 use Rattle.circuit.specs.declared.lines.Line.the-variants.{Gate}
 use Rattle.circuit.specs.declared.refusals.Refusal.{Refusal}
 use Rattle.circuit.specs.declared.refusals.Refusal.the-variants.{LongName, UnknownPin}

@@ -3,7 +3,7 @@ use mathlib.Core.Path.{_≡_, refl, sym, ap, subst, _∙_}
 use mathlib.Core.Bool.{true, false}
 use mathlib.Core.List.{List, [], _∷_, _++_}
 use mathlib.Core.Logic.{⊎-elim}
-use Prim.Native.Nat.{ℕ, zero, suc, _+_, _≤_, _<_}
+use Prim.Native.Nat.{ℕ, suc, _+_, _≤_}
 use native.Mathlib.Omega.{arith}
 use lib.Dec.{eqb}
 use lib.ListN.{length, take, drop}
@@ -17,7 +17,7 @@ use Rattle.circuit.specs.declared.refusals.Refusal.{Refusal}
 use Rattle.netlist.specs.Tokens.{run, line-tokens, Word, name, open-sign, close-sign, comma, equals, stray, end, spelling}
 use Rattle.netlist.specs.Statements.{Stmt, bind, statement-of}
 use Rattle.netlist.specs.Driving.{State}
-use Rattle.netlist.specs.Reading.{in-line, lines-from, lines-of, step, tell}
+use Rattle.netlist.specs.Reading.{in-line, lines-of, step, tell}
 use Rattle.netlist.specs.declared.reading.Pass.{Pass}
 use Rattle.netlist.specs.Grammar.{Said, input, output, gate, words-of, Written, Spells, nothing, comment, separator, word, Holds, none, one, Text, last, line}
 use Rattle.netlist.proofs.Said.{said-of, Fitting, LineLaw}

@@ -1,11 +1,11 @@
 use mathlib.Core.Path.{_≡_, sym, ap, _∙_}
-use mathlib.Core.List.{List, [], _∷_, _++_, append-nil}
+use mathlib.Core.List.{List, _∷_, append-nil}
 use Prim.Native.Nat.{ℕ, zero, _-_, _+_}
 use native.Mathlib.Omega.{arith}
 use lib.ListN.{take}
 use Rattle.std.proofs.shelf.Lists.{take-more-set}
 use Rattle.std.specs.Options.{okOr}
-use Rattle.std.specs.declared.result.Result.the-variants.{Ok, Err}
+use Rattle.std.specs.declared.result.Result.the-variants.{Ok}
 use Rattle.circuit.specs.Names.{find}
 use Rattle.circuit.specs.Plans.{plan-of}
 use Rattle.circuit.specs.Shape.{padded}

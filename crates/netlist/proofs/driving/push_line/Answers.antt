@@ -2,13 +2,10 @@ use mathlib.Core.Path.{_≡_, sym, ap, subst, _∙_}
 use mathlib.Core.List.{map, [], _∷_, _++_}
 use native.Mathlib.Omega.{arith}
 use borrow.Author.Needs.{needs}
-use lib.ListN.{length}
 use Rattle.std.proofs.shelf.Lists.{map-push}
 use Rattle.std.specs.Of.Vec.{vec-items}
 use Rattle.circuit.specs.Shape.{inputsIn, Counted, Filled, Fed, Numbered, Distinct}
 use Rattle.circuit.specs.Spelled.{bytes-of}
-use Rattle.circuit.specs.Plans.{Plan}
-use Rattle.netlist.specs.Driving.{with-line}
 use Rattle.netlist.proofs.Pushed.{counted-push, filled-push, fed-push, numbered-push, distinct-push, shown-more}
 use Rattle.netlist.proofs.driving.push_line.Needs as need
 

@@ -1,7 +1,6 @@
 use mathlib.Core.Path.{_≡_, sym, ap, _∙_}
-use Prim.Native.Nat.{ℕ, zero, _-_, _+_}
+use Prim.Native.Nat.{zero, _-_, _+_}
 use native.Mathlib.Omega.{arith}
-use lib.ListN.{length}
 use Rattle.std.proofs.shelf.Tests.{lt-ltb, le-ltb}
 use Rattle.circuit.specs.declared.refusals.Refusal.the-variants.{LongName}
 use Rattle.netlist.specs.Tokens.{toks}

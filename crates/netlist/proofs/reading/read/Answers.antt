@@ -1,7 +1,6 @@
 use mathlib.Core.Path.{_≡_, sym, ap, _∙_}
 use Rattle.std.specs.declared.result.Result.the-variants.{Ok, Err}
 use Rattle.circuit.specs.Plans.{plan-of}
-use Rattle.netlist.specs.Driving.{outcome}
 use Rattle.netlist.specs.Reading.{filling, meaning}
 use Rattle.netlist.proofs.TextPlaces.{place-law}
 use Rattle.netlist.proofs.TextLaw.{lawful}

@@ -1,7 +1,6 @@
-use mathlib.Core.Path.{sym, _∙_}
+use mathlib.Core.Path.{sym}
 use Prim.Native.Nat.{_+_}
 use native.Mathlib.Omega.{arith}
-use borrow.Author.Needs.{needs}
 use lib.ListN.{length-drop}
 use Rattle.std.proofs.shelf.Tests.{ne-eqb}
 use Rattle.netlist.proofs.Gaps.{gap-hash, gap-more, gap-stop, gap-end}

@@ -1,6 +1,6 @@
 use Prim.Native.Nat.{_+_}
 use mathlib.Core.Path.{_≡_}
-use lib.ListN.{length, drop}
+use lib.ListN.{drop}
 use Rattle.netlist.specs.Tokens.{gap}
 use Rattle.netlist.proofs.tokens.gap_len.Given as given
 

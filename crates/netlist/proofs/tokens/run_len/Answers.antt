@@ -1,6 +1,5 @@
-use mathlib.Core.Path.{sym, _∙_}
+use mathlib.Core.Path.{sym}
 use native.Mathlib.Omega.{arith}
-use borrow.Author.Needs.{needs}
 use Rattle.netlist.specs.Tokens.{name-byte}
 use Rattle.netlist.proofs.Runs.{run-more, run-stop, run-end}
 use Rattle.netlist.proofs.tokens.run_len.Needs as need

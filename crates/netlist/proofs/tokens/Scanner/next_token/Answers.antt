@@ -2,7 +2,7 @@ use mathlib.Core.Path.{_≡_, sym, ap, _∙_}
 use Prim.Native.Nat.{_-_}
 use native.Mathlib.Omega.{arith}
 use lib.ListN.{length, drop}
-use Rattle.netlist.specs.Tokens.{gap, at, words, first-word, spelling, Tok}
+use Rattle.netlist.specs.Tokens.{gap, at, first-word, spelling, Tok}
 use Rattle.netlist.proofs.Gaps.{gap-within, next-first, next-after}
 use Rattle.netlist.proofs.tokens.Scanner.next_token.Needs as need
 
