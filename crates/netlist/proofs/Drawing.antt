@@ -34,6 +34,7 @@ use Rattle.netlist.proofs.TextLines.{fold, said}
 use Rattle.circuit.proofs.Found.{find-at, find-none}
 use Rattle.netlist.proofs.Drawn.{pins-below}
 use Rattle.netlist.proofs.Pushed.{inputs-append}
+use Rattle.netlist.proofs.Risen.{clash}
 
 most-four : (k : Kind) → most k ≤ 4
 most-four And = omega arith
@@ -111,8 +112,8 @@ module _ (P : Plan) (sound : Sound P) where
 
     pins-read : (ns : List Named) (ps : List ℕ) → map bytes-at ns ≡ map (name-at P) ps → All (λ i. i < length dn) ps → (short-pins ns ≡ Ok tt) × (resolve dn ns ≡ Ok ps)
     pins-read [] [] e h = (refl, refl)
-    pins-read [] (i ∷ ps) e h = let z : _≡_ {A = ℕ} 0 1 = cc in absurd (omega arith)
-    pins-read (n ∷ ns) [] e h = let z : _≡_ {A = ℕ} 0 1 = cc in absurd (omega arith)
+    pins-read [] (i ∷ ps) e h = clash (cc)
+    pins-read (n ∷ ns) [] e h = clash (cc)
     pins-read (n ∷ ns) (i ∷ ps) e h =
         let here : n .bytes ≡ name-at P i = cc in
         let there : map bytes-at ns ≡ map (name-at P) ps = cc in
@@ -192,10 +193,10 @@ module _ (P : Plan) (sound : Sound P) where
 
     line-input : (l : Line) (n : Named) → dl ++ l ∷ rl ≡ P .lines → input (n .bytes) ≡ driver P w l → drive-input (before dl dn) n ≡ Ok (with-line (before dl dn) w l)
     line-input (Input j) n lines e = let b : n .bytes ≡ w = cc in drives-input j n lines b
-    line-input (Gate g) n lines e = let z : _≡_ {A = ℕ} 0 1 = cc in absurd (omega arith)
+    line-input (Gate g) n lines e = clash (cc)
 
     line-gate : (l : Line) (n : Named) (k : Kind) (ns : List Named) → dl ++ l ∷ rl ≡ P .lines → gate (n .bytes) k (map bytes-at ns) ≡ driver P w l → drive-gate (before dl dn) n k ns ≡ Ok (with-line (before dl dn) w l)
-    line-gate (Input j) n k ns lines e = let z : _≡_ {A = ℕ} 0 1 = cc in absurd (omega arith)
+    line-gate (Input j) n k ns lines e = clash (cc)
     line-gate (Gate g) n k ns lines e =
         let b : n .bytes ≡ w = cc in
         let c : k ≡ g .kind = cc in
@@ -232,8 +233,8 @@ module _ (P : Plan) (sound : Sound P) where
   module _ (dl : List Line) (dn : List (List ℕ)) (a : ℕ) where
     next-of : (s : Said) (ss : List Said) (ls : List Line) (ns : List (List ℕ)) (os : List ℕ) → dl ++ ls ≡ P .lines → dn ++ ns ≡ P .names → length dl ≡ length dn → s ∷ driving ss ≡ drivers P ns ls
         → showing ss ≡ map (λ o. output (name-at P o)) os → All (λ o. o < length (P .names)) os → a + length os ≤ 63 → Next dl dn a s ss
-    next-of s ss ls [] os lines names size e shown within few = let z : _≡_ {A = ℕ} 0 1 = cc in absurd (omega arith)
-    next-of s ss [] (n ∷ ns) os lines names size e shown within few = let z : _≡_ {A = ℕ} 0 1 = cc in absurd (omega arith)
+    next-of s ss ls [] os lines names size e shown within few = clash (cc)
+    next-of s ss [] (n ∷ ns) os lines names size e shown within few = clash (cc)
     next-of s ss (l ∷ ls) (n ∷ ns) os lines names size e shown within few =
         record {
           word = n;
@@ -272,7 +273,7 @@ module _ (P : Plan) (sound : Sound P) where
 
   module _ (dl : List Line) (dn : List (List ℕ)) (a : ℕ) where
     asks : (n : Named) (ss : List Said) (os : List ℕ) → Left dl dn a (output (n .bytes) ∷ ss) → output (n .bytes) ∷ showing ss ≡ map (λ o. output (name-at P o)) os → All (λ o. o < length (P .names)) os → a + length os ≤ 63 → Stepped dl dn a (stmt.output n) ss
-    asks n ss [] r e within few = let z : _≡_ {A = ℕ} 0 1 = cc in absurd (omega arith)
+    asks n ss [] r e within few = clash (cc)
     asks n ss (o ∷ os) r e within few =
         let b : n .bytes ≡ name-at P o = cc in
         let short : long n ≡ false = short-by n (name-at P o) b (sound .short o (within .0)) in
@@ -311,7 +312,7 @@ module _ (P : Plan) (sound : Sound P) where
     nothing-left [] [] size e = (refl, refl)
     nothing-left [] (n ∷ ns) size e = absurd (omega arith)
     nothing-left (l ∷ ls) [] size e = absurd (omega arith)
-    nothing-left (l ∷ ls) (n ∷ ns) size e = let z : _≡_ {A = ℕ} 0 1 = cc in absurd (omega arith)
+    nothing-left (l ∷ ls) (n ∷ ns) size e = clash (cc)
 
     ended : Left dl dn a [] → drawing dl dn a ≡ drawing (P .lines) (P .names) a
     ended r =
@@ -346,10 +347,10 @@ module _ (P : Plan) (sound : Sound P) where
 
   shows-all : (done rest : List ℕ) (a : ℕ) (sts : List Stmt) → done ++ rest ≡ P .outputs → showing (said sts) ≡ map (λ o. output (name-at P o)) rest → fold Show (showing-now done a) sts ≡ Ok (record { plan = P; asked = a })
   shows-all done [] a [] split e = ap (λ os. Ok (showing-now os a)) (sym (append-nil done) ∙ split)
-  shows-all done (o ∷ rest) a [] split e = let z : _≡_ {A = ℕ} 0 1 = cc in absurd (omega arith)
+  shows-all done (o ∷ rest) a [] split e = clash (cc)
   shows-all done rest a (stmt.blank ∷ sts) split e = shows-all done rest a sts split e
   shows-all done rest a (stmt.input n ∷ sts) split e = shows-all done rest a sts split e
-  shows-all done [] a (stmt.output n ∷ sts) split e = let z : _≡_ {A = ℕ} 0 1 = cc in absurd (omega arith)
+  shows-all done [] a (stmt.output n ∷ sts) split e = clash (cc)
   shows-all done (o ∷ rest) a (stmt.output n ∷ sts) split e =
       let b : n .bytes ≡ name-at P o = cc in
       let c : showing (said sts) ≡ map (λ o. output (name-at P o)) rest = cc in

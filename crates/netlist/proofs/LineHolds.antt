@@ -25,10 +25,10 @@ use Rattle.netlist.specs.Statements as stmt
 use Rattle.netlist.specs.Statements.{Named, bind, want, want-name, one-name, next-pin, plus, more-pins, pins, labels, spells, kind-of, want-kind, Stmt, unless, gate-of, form-of, by-form, statement-of}
 use Rattle.netlist.specs.Grammar.{Said, input, output, gate, pin-words, words-of, Proper, Holds, none, one}
 use Rattle.netlist.proofs.Said.{bytes-at, said-of, Fitting}
-use Rattle.netlist.proofs.Risen.{bind-ok, unless-ok, okOr-ok}
+use Rattle.netlist.proofs.Risen.{clash, bind-ok, unless-ok, okOr-ok}
 use Rattle.netlist.proofs.Gaps.{not-end}
 use Rattle.netlist.proofs.Spelling.{said, Plain, words-spell}
-use Rattle.netlist.proofs.LineWords.{clash, spells-is, spells-no, kind-back, more-words, pin-words-more}
+use Rattle.netlist.proofs.LineWords.{spells-is, spells-no, kind-back, more-words, pin-words-more}
 
 -- tokens of which the last, and no other, is the end
 data Ends : List Tok → Type 0 where

@@ -24,7 +24,8 @@ use Rattle.netlist.specs.Statements.{Named, label, want, want-name, one-name, 
 use Rattle.netlist.specs.Grammar.{Said, input, output, gate, pin-words, words-of, Proper, Holds, none, one}
 use Rattle.netlist.proofs.Said.{bytes-at, said-of, Fitting}
 use Rattle.netlist.proofs.Spelling.{said, words-spelt}
-use Rattle.netlist.proofs.LineWords.{clash, kind-is, form-gate, more-words, pin-words-more}
+use Rattle.netlist.proofs.Risen.{clash}
+use Rattle.netlist.proofs.LineWords.{kind-is, form-gate, more-words, pin-words-more}
 
 head-is : (ts : List Tok) (w : Word) (ws : List Word) → said ts ≡ w ∷ ws → first ts .word ≡ w
 head-is [] w ws q = clash (cc)

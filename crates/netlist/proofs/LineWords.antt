@@ -17,9 +17,7 @@ use Rattle.netlist.specs.Tokens.{Word, name, close-sign, comma}
 use Rattle.netlist.specs.Statements.{spells, kind-of, form-of}
 use Rattle.circuit.specs.Gates.{kind-word}
 use Rattle.netlist.specs.Grammar.{pin-words}
-
-pub clash : {X : Type 0} → _≡_ {A = ℕ} 0 1 → X
-clash z = absurd (omega arith)
+use Rattle.netlist.proofs.Risen.{clash}
 
 -- a text that passes the test of its bytes is those bytes
 module _ (w : List ℕ) where

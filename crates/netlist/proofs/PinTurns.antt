@@ -12,6 +12,7 @@ use Rattle.circuit.specs.declared.refusals.Refusal.{Refusal}
 use Rattle.circuit.specs.declared.refusals.Refusal.the-variants.{Misform}
 use Rattle.netlist.specs.Tokens.{Tok, Word, first, after, name, open-sign, close-sign, comma, equals, stray, end}
 use Rattle.netlist.specs.Statements.{Named, want-name, bind, next-pin, more-pins, pins, plus}
+use Rattle.netlist.proofs.Risen.{clash}
 
 plus-plus : (m n : ℕ) (r : Result ℕ Refusal) → plus m (plus n r) ≡ plus (m + n) r
 plus-plus m n (Ok k) = let e : m + (n + k) ≡ m + n + k = omega arith in ap (λ n. Ok n) e
@@ -21,10 +22,10 @@ abbrev Turn : List Tok → Type 0
 Turn ts = next-pin ts ≡ Ok true → (more-pins ts ≡ plus 1 (more-pins (after (after ts)))) × (length (after (after ts)) + 2 ≤ length ts)
 
 no : {X : Type 0} (d : Refusal) → _≡_ {A = Result Bool Refusal} (Err d) (Ok true) → X
-no d e = let z : _≡_ {A = ℕ} 0 1 = cc in absurd (omega arith)
+no d e = clash (cc)
 
 no-more : {X : Type 0} → _≡_ {A = Result Bool Refusal} (Ok false) (Ok true) → X
-no-more e = let z : _≡_ {A = ℕ} 0 1 = cc in absurd (omega arith)
+no-more e = clash (cc)
 
 abbrev tok : Word → Place → Tok
 tok w p = record { word = w; place = p }
@@ -67,7 +68,7 @@ turn (s ∷ t ∷ ts) e = turn-two (s .word) (t .word) (s .place) (t .place) ts 
 
 -- where none stands, or the line is refused
 pub stop : (ts : List Tok) → next-pin ts ≡ Ok false → more-pins ts ≡ Ok 0
-stop [] e = let z : _≡_ {A = ℕ} 0 1 = cc in absurd (omega arith)
+stop [] e = clash (cc)
 stop (s ∷ []) e = rw e
 stop (s ∷ t ∷ ts) e = rw e
 

@@ -16,7 +16,7 @@ use Rattle.circuit.specs.declared.kinds.Kind.{Kind}
 use Rattle.circuit.specs.declared.lines.Line.the-variants.{Gate}
 use Rattle.circuit.specs.declared.refusals.Refusal.{Refusal}
 use Rattle.circuit.specs.declared.refusals.Refusal.the-variants.{LongName, UnknownPin}
-use Rattle.netlist.proofs.Risen.{unless-ok, not-some}
+use Rattle.netlist.proofs.Risen.{clash, unless-ok, not-some}
 use Rattle.netlist.proofs.Pushed.{resolved}
 use Rattle.netlist.proofs.Said.{bytes-at}
 use Rattle.netlist.specs.Tokens.{Tok, first, after}
@@ -86,7 +86,7 @@ pins-found k n found names ns len e = by-result (resolve names ns) refl e
         let f : found ≡ padded ls = cc in
         let m : length ls ≡ n = sym (length-map ls (λ i. getD names i [])) ∙ ap length (resolved names ns ls h .1) ∙ length-map ns bytes-at ∙ len in
         (ls, h, m, λ i. Gate (record { kind = k; pins = f i; count = sym m i }))
-    by-result (Err d) h e = let z : _≡_ {A = ℕ} 0 1 = cc in absurd (omega arith)
+    by-result (Err d) h e = clash (cc)
 
 -- a gate statement that passes each step
 pub gate-driven : (p : Plan) (n : Named) (k : Kind) (ns : List Named) (w : List ℕ) (ls : List ℕ) → Ok w ≡ want-short n → Ok tt ≡ want-room p n → Ok tt ≡ short-pins ns → Ok tt ≡ want-undriven p n → Ok ls ≡ resolve (p .names) ns → Ok (with-line p w (Gate (gateOf k ls))) ≡ drive-gate p n k ns

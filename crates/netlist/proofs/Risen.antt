@@ -12,16 +12,20 @@ use Rattle.std.specs.declared.result.Result.the-variants.{Ok, Err}
 use Rattle.circuit.specs.declared.refusals.Refusal.{Refusal}
 use Rattle.netlist.specs.Statements.{bind, unless}
 
+-- different constructors are never equal
+pub clash : {X : Type 0} → _≡_ {A = ℕ} 0 1 → X
+clash z = absurd (omega arith)
+
 pub bind-ok : {X Y : Type 0} (r : Result X Refusal) (f : X → Result Y Refusal) (y : Y) → bind r f ≡ Ok y → (x : X) × (r ≡ Ok x) × (f x ≡ Ok y)
 bind-ok (Ok x) f y e = (x, refl, e)
-bind-ok (Err d) f y e = let z : _≡_ {A = ℕ} 0 1 = cc in absurd (omega arith)
+bind-ok (Err d) f y e = clash (cc)
 
 pub unless-ok : {X : Type 0} (b : Bool) (d : Refusal) (r : Result X Refusal) (y : X) → unless b d r ≡ Ok y → (b ≡ false) × (r ≡ Ok y)
-unless-ok true d r y e = let z : _≡_ {A = ℕ} 0 1 = cc in absurd (omega arith)
+unless-ok true d r y e = clash (cc)
 unless-ok false d r y e = (refl, e)
 
 pub okOr-ok : {X : Type 0} (o : Option X) (d : Refusal) (x : X) → okOr o d ≡ Ok x → o ≡ Some x
-okOr-ok None d x e = let z : _≡_ {A = ℕ} 0 1 = cc in absurd (omega arith)
+okOr-ok None d x e = clash (cc)
 okOr-ok (Some y) d x e = let z : y ≡ x = cc in ap (λ y. Some y) z
 
 pub not-some : {X : Type 0} (o : Option X) → isSome o ≡ false → o ≡ None

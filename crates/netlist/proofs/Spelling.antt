@@ -12,6 +12,7 @@ use Rattle.std.proofs.shelf.Tests.{cond-both, both-ways, ne-eqb, eqb-true, or-f
 use Rattle.netlist.specs.Tokens.{Tok, Word, name, open-sign, close-sign, comma, equals, stray, end, name-byte, space-byte, run, spelling, sign-word, first-word, is-end, words}
 use Rattle.netlist.specs.Grammar.{Written, Apart, begins-name, Spells, nothing, comment, separator, word}
 use Rattle.netlist.proofs.Gaps.{words-skip, not-end}
+use Rattle.netlist.proofs.Runs.{run-front}
 
 abbrev pub what : Tok → Word
 what t = t .word
@@ -42,11 +43,9 @@ name-no-hash b h = differs name-byte b 35 h refl
 name-no-space : (b : ℕ) → name-byte b ≡ true → space-byte b ≡ false
 name-no-space b h = or-from _ _ (differs name-byte b 32 h refl) (or-from _ _ (differs name-byte b 9 h refl) (differs name-byte b 13 h refl))
 
--- the longest run of a name's bytes
-run-name : (cs bs : List ℕ) → All (λ b. name-byte b ≡ true) cs → begins-name bs ≡ false → run name-byte (cs ++ bs) ≡ length cs
-run-name [] [] h a = refl
-run-name [] (b ∷ bs) h a = rw a
-run-name (c ∷ cs) bs h a = let t = h .0 in rw (t, run-name cs bs (h .1) a)
+no-name : (bs : List ℕ) → begins-name bs ≡ false → run name-byte bs ≡ 0
+no-name [] a = refl
+no-name (b ∷ bs) a = rw a
 
 run-all : (p : ℕ → Bool) (bs : List ℕ) → All (λ b. p b ≡ true) (take (run p bs) bs)
 run-all p [] = tt
@@ -63,7 +62,7 @@ module _ (l e : ℕ) where
       let t = w .1 .0 in
       let h = name-no-hash c t in
       let s = name-no-space c t in
-      let r = run-name cs bs (w .1 .1) a in
+      let r = run-front name-byte cs bs (w .1 .1) (no-name bs a) in
       rw (h, s, t, r, take-at cs bs (length cs) refl, words-skip l e (length cs) (cs ++ bs), drop-at cs bs (length cs) refl)
   one-word open-sign bs w a = refl
   one-word close-sign bs w a = refl

@@ -3,7 +3,6 @@ use mathlib.Core.Path.{_≡_, refl, sym, ap, _∙_}
 use mathlib.Core.Bool.{false}
 use mathlib.Core.List.{List, []}
 use Prim.Native.Nat.{ℕ}
-use native.Mathlib.Omega.{arith}
 use lib.Dec.{ltb}
 use lib.ListN.{length}
 use Rattle.std.proofs.shelf.Tests.{ltb-false, le-ltb}
@@ -17,7 +16,7 @@ use Rattle.netlist.specs.Reading.{lines-of, tell, meaning}
 use Rattle.netlist.specs.declared.reading.Pass.the-variants.{Drive, Show}
 use Rattle.netlist.specs.Grammar.{Accepted, Lawful, driving, showing}
 use Rattle.netlist.proofs.Said.{LineLaw, start}
-use Rattle.netlist.proofs.Risen.{bind-ok, unless-ok}
+use Rattle.netlist.proofs.Risen.{clash, bind-ok, unless-ok}
 use Rattle.netlist.proofs.LineReads.{line-reads}
 use Rattle.netlist.proofs.LineHolds.{line-holds}
 use Rattle.netlist.proofs.TextLines.{said, told-read, read-tell, lines-text, text-read}
@@ -57,7 +56,7 @@ module _ (text : List ℕ) (p : Plan) where
 
 told : (r : Result (Unit {0}) Refusal) (p q : Plan) → outcome r p ≡ Ok q → (r ≡ Ok tt) × (p ≡ q)
 told (Ok tt) p q e = let z : p ≡ q = cc in (refl, z)
-told (Err d) p q e = let z : _≡_ {A = ℕ} 0 1 = cc in absurd (omega arith)
+told (Err d) p q e = clash (cc)
 
 pub lawful : (text : List ℕ) (r : Result (Unit {0}) Refusal) (p : Plan) → outcome r p ≡ meaning text → Lawful text r p
 lawful text r p e =

@@ -9,7 +9,7 @@ use lib.Dec.{eqb}
 use lib.ListN.{length, take, drop}
 use Rattle.std.proofs.shelf.Lists.{append-assoc, append-nil, take-at, take-all, drop-all, drop-at, length-append}
 use Rattle.std.proofs.shelf.Elements.{all-append}
-use Rattle.std.proofs.shelf.Tests.{cases-bool, cond-true, eqb-true, not-false}
+use Rattle.std.proofs.shelf.Tests.{cases-bool, eqb-true, not-false}
 use Rattle.std.specs.shelf.Lists.{All, joined}
 use Rattle.std.specs.declared.result.Result.{Result}
 use Rattle.std.specs.declared.result.Result.the-variants.{Ok, Err}
@@ -21,8 +21,9 @@ use Rattle.netlist.specs.Reading.{in-line, lines-of, step, tell}
 use Rattle.netlist.specs.declared.reading.Pass.{Pass}
 use Rattle.netlist.specs.Grammar.{Said, input, output, gate, words-of, Written, Spells, nothing, comment, separator, word, Holds, none, one, Text, last, line}
 use Rattle.netlist.proofs.Said.{said-of, Fitting, LineLaw}
-use Rattle.netlist.proofs.Risen.{bind-ok}
+use Rattle.netlist.proofs.Risen.{clash, bind-ok}
 use Rattle.netlist.proofs.LineTurns.{lines-turn}
+use Rattle.netlist.proofs.Runs.{run-front}
 
 -- a text and its lines; a last line that is empty is none
 data Lines : List ℕ → List (List ℕ) → Type 0 where
@@ -30,17 +31,9 @@ data Lines : List ℕ → List (List ℕ) → Type 0 where
   one-line : {b : ℕ} {bs : List ℕ} → All (λ b. in-line b ≡ true) (b ∷ bs) → Lines (b ∷ bs) ((b ∷ bs) ∷ [])
   more : {bs rest : List ℕ} {ls : List (List ℕ)} → All (λ b. in-line b ≡ true) bs → Lines rest ls → Lines (bs ++ 10 ∷ rest) (bs ∷ ls)
 
-run-all : (bs : List ℕ) → All (λ b. in-line b ≡ true) bs → run in-line bs ≡ length bs
-run-all [] h = refl
-run-all (b ∷ bs) h = cond-true _ _ _ (h .0) ∙ ap suc (run-all bs (h .1))
-
-run-front : (bs rest : List ℕ) → All (λ b. in-line b ≡ true) bs → run in-line (bs ++ 10 ∷ rest) ≡ length bs
-run-front [] rest h = refl
-run-front (b ∷ bs) rest h = cond-true _ _ _ (h .0) ∙ ap suc (run-front bs rest (h .1))
-
 lines-one : (b : ℕ) (bs : List ℕ) → All (λ b. in-line b ≡ true) (b ∷ bs) → lines-of (b ∷ bs) ≡ (b ∷ bs) ∷ []
 lines-one b bs h =
-    let r = run-all (b ∷ bs) h in
+    let r : run in-line (b ∷ bs) ≡ length (b ∷ bs) = ap (run in-line) (sym (append-nil (b ∷ bs))) ∙ run-front in-line (b ∷ bs) [] h refl in
     let n = run in-line (b ∷ bs) in
     let t : take n (b ∷ bs) ≡ b ∷ bs = take-all n (b ∷ bs) (omega arith) in
     let d : drop (suc n) (b ∷ bs) ≡ [] = drop-all (suc n) (b ∷ bs) (omega arith) in
@@ -49,7 +42,7 @@ lines-one b bs h =
 lines-more : (bs rest : List ℕ) → All (λ b. in-line b ≡ true) bs → lines-of (bs ++ 10 ∷ rest) ≡ bs ∷ lines-of rest
 lines-more bs rest h =
     let s = bs ++ 10 ∷ rest in
-    let r = run-front bs rest h in
+    let r = run-front in-line bs (10 ∷ rest) h refl in
     let t : take (run in-line s) s ≡ bs = take-at bs (10 ∷ rest) _ (sym r) in
     let e : s ≡ (bs ++ 10 ∷ []) ++ rest = sym (append-assoc bs (10 ∷ []) rest) in
     let n : length (bs ++ 10 ∷ []) ≡ suc (run in-line s) = omega (arith, length-append bs (10 ∷ [])) in
@@ -128,9 +121,9 @@ spells-none e (separator t r) = absurd (omega arith)
 spells-none e (word {w} {bs} wr ap r) = absurd (omega (arith, word-size w wr, length-append (spelling w) bs))
 
 some-words : (s : Said) → words-of s ≡ [] → ⊥
-some-words (input n) e = let z : _≡_ {A = ℕ} 0 1 = cc in omega arith
-some-words (output n) e = let z : _≡_ {A = ℕ} 0 1 = cc in omega arith
-some-words (gate n k ns) e = let z : _≡_ {A = ℕ} 0 1 = cc in omega arith
+some-words (input n) e = clash (cc)
+some-words (output n) e = clash (cc)
+some-words (gate n k ns) e = clash (cc)
 
 empty-holds : {bs : List ℕ} {ss : List Said} → length bs ≡ 0 → Holds bs ss → ss ≡ []
 empty-holds e (none sp) = refl
