@@ -1,4 +1,6 @@
 // What a card is: kinds of gate, lines, circuits, fault sites, and why a call declines.
+#![tactic(auto)]
+
 mod drafts;
 mod faults;
 mod kinds;

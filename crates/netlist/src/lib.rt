@@ -1,4 +1,5 @@
 // The netlist reader: text in the bench notation becomes a circuit.
+#![tactic(auto)]
 mod driving;
 mod reading;
 mod statements;

@@ -1,4 +1,5 @@
 // safd: stuck-at fault dictionaries.
+#![tactic(auto)]
 mod commands;
 mod messages;
 

@@ -1,4 +1,5 @@
 // One vector simulated for a list of faults, many machines at once.
+#![tactic(auto)]
 mod batches;
 mod filing;
 mod listing;

@@ -1,4 +1,5 @@
 // Vectors, fault lists and logs as text files.
+#![tactic(auto)]
 mod cursors;
 mod faults;
 mod flaws;

@@ -6,6 +6,6 @@ use Rattle.circuit.proofs.whole.Circuit.depth.Goals as goal
 pub returns : goal.returns
 returns c =
     record {
-      deep = c.highest-level.ensures ∙ ap depth_of c.as-slice.ensures.value;
+      deep = c.highest_level.ensures ∙ ap depth_of c.as_slice.ensures.value;
       levelled = levelled _ c.args.self.now.draft.fed;
     }

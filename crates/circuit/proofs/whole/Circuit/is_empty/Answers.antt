@@ -8,7 +8,7 @@ pub returns : goal.returns
 returns c =
     let s = c.args.self.now in
     let n = length (plan s).lines in
-    let e : c.is-empty.result ≡ eqb n 0 = c.is-empty.ensures in
+    let e : c.is_empty.result ≡ eqb n 0 = c.is_empty.ensures in
     record {
       value = e;
       empty = λ t. empty_of s (eqb-true n 0 (sym e ∙ t));

@@ -3,13 +3,13 @@ use Rattle.std.proofs.lemmas.List.{at_drop_all}
 use Rattle.circuit.specs.Survey.{gates_of}
 use Rattle.circuit.proofs.Levels.{gates_step}
 use Rattle.circuit.proofs.whole.survey.count_gates.Goals as goal
-use Rattle.circuit.proofs.whole.survey.count_gates.Goals.{then-is-of, else-is-of}
+use Rattle.circuit.proofs.whole.survey.count_gates.Goals.{then-is_of, else-is_of}
 
 pub loop-line-preserved : goal.loop-line-preserved
 loop-line-preserved c =
-    elim c.if-is-of.branch [
-      | then-is-of w ↦ (omega (arith, w.count-is), omega (arith, w.count-is, gates_step c.args.kind c.args.lines.now c.loop-line.line-index _ true (omega arith) w.if-is-of.ensures))
-      | else-is-of w ↦ (omega (arith, w.count-is), omega (arith, w.count-is, gates_step c.args.kind c.args.lines.now c.loop-line.line-index _ false (omega arith) w.if-is-of.ensures))
+    elim c.if-is_of.branch [
+      | then-is_of w ↦ (omega (arith, w.count-is), omega (arith, w.count-is, gates_step c.args.kind c.args.lines.now c.loop-line.line-index _ true (omega arith) w.if-is_of.ensures))
+      | else-is_of w ↦ (omega (arith, w.count-is), omega (arith, w.count-is, gates_step c.args.kind c.args.lines.now c.loop-line.line-index _ false (omega arith) w.if-is_of.ensures))
     ]
 
 pub returns : goal.returns

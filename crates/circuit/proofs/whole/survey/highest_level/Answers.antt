@@ -9,14 +9,14 @@ pub loop-i-preserved : goal.loop-i-preserved
 loop-i-preserved c =
     let i = c.loop-i.i in
     let table = c.loop-i.table in
-    let level = c.level-of-level.result in
+    let level = c.level_of-level.result in
     let room : i < length table = omega arith in
     let grown = take_more_set table i level room in
     let risen : c.max-top.result ≡ max c.loop-i.top level = c.max-top.ensures in (
       omega (arith, length-set table i level),
-      omega (arith, level_low (take i table) (get_or c.args.lines.now i blank), c.level-of-level.ensures),
+      omega (arith, level_low (take i table) (get_or c.args.lines.now i blank), c.level_of-level.ensures),
       omega (arith, ap highest grown, highest_push (take i table) level),
-      levels_step (take i table) _ c.args.lines.now i level c.loop-i-test.true c.level-of-level.ensures grown ∙ c.loop-i.invariant.3,
+      levels_step (take i table) _ c.args.lines.now i level c.loop-i-test.true c.level_of-level.ensures grown ∙ c.loop-i.invariant.3,
     )
 
 pub returns : goal.returns
