@@ -15,31 +15,31 @@ use Rattle.netlist.proofs.driving.find_pins.Goals.{After-next-label-label}
 abbrev names_in : After-next-label-label → List (List ℕ)
 names_in c = (plan_of c.args.draft.now).names
 
-turn : (c : After-next-label-label) → resolve (names_in c) (labels (c.args.pins.count - c.loop-p.p) (toks c.loop-p.scanner)) ≡ bind (ok_or (find (names_in c) c.next-label-label.result.bytes.now) (UnknownPin c.next-label-label.result.place)) (λ l. bind (resolve (names_in c) (labels (c.args.pins.count - c.loop-p.p - 1) (toks c.next-label-label.new.sc))) (λ ls. Ok (l ∷ ls)))
-turn c = resolve_turn (c.args.pins.count - c.loop-p.p) (toks c.loop-p.scanner) (toks c.next-label-label.new.sc) (named c.next-label-label.result) (omega arith) c.next-label-label.ensures.label c.next-label-label.ensures.rest (names_in c)
+turn : (c : After-next-label-label) → resolve (names_in c) (labels (c.args.pins.count - c.loop-p.p) (toks c.loop-p.scanner)) ≡ bind (ok_or (find (names_in c) c.next_label-label.result.bytes.now) (UnknownPin c.next_label-label.result.place)) (λ l. bind (resolve (names_in c) (labels (c.args.pins.count - c.loop-p.p - 1) (toks c.next_label-label.new.sc))) (λ ls. Ok (l ∷ ls)))
+turn c = resolve_turn (c.args.pins.count - c.loop-p.p) (toks c.loop-p.scanner) (toks c.next_label-label.new.sc) (named c.next_label-label.result) (omega arith) c.next_label-label.ensures.label c.next_label-label.ensures.rest (names_in c)
 
 pub returns-in-None : goal.returns-in-None
 returns-in-None c =
-    let b = (goal.at.returns-in-None c).After-next-label-label in
-    let place = c.next-label-label.result.place in
-    let rest = resolve (names_in b) (labels (c.args.pins.count - c.loop-p.p - 1) (toks c.next-label-label.new.sc)) in
+    let b = (goal.at.returns-in-None c).After-next_label-label in
+    let place = c.next_label-label.result.place in
+    let rest = resolve (names_in b) (labels (c.args.pins.count - c.loop-p.p - 1) (toks c.next_label-label.new.sc)) in
     ap (λ r. bind (prepend (take c.loop-p.p c.loop-p.found) r) (λ ls. Ok (padded ls)))
     (sym (turn b ∙ ap (λ o. bind (ok_or o (UnknownPin place)) (λ l. bind rest (λ ls. Ok (l ∷ ls)))) (sym c.in-None.ensures.value)))
     ∙ ap (λ r. bind r (λ ls. Ok (padded ls))) c.loop-p.invariant.0
 
 pub loop-p-preserved : goal.loop-p-preserved
 loop-p-preserved c =
-    let b = (goal.at.loop-p-preserved c).After-next-label-label in
+    let b = (goal.at.loop-p-preserved c).After-next_label-label in
     let n = c.args.pins.count in
     let p = c.loop-p.p in
     let found = c.loop-p.found in
-    let us = toks c.next-label-label.new.sc in
+    let us = toks c.next_label-label.new.sc in
     let e : n - (p + 1) ≡ n - p - 1 = omega arith in
     let rest = resolve (names_in b) (labels (n - p - 1) us) in (
       ap (λ k. prepend (take (p + 1) (lib.ListN.set found p c.in-Some.line)) (resolve (names_in b) (labels k us))) e
           ∙ ap (λ xs. prepend xs rest) (take_more_set found p c.in-Some.line (omega (arith, c.loop-p.invariant.1.0)))
           ∙ sym (prepend_push (take p found) c.in-Some.line rest)
-          ∙ ap (prepend (take p found)) (sym (turn b ∙ ap (λ o. bind (ok_or o (UnknownPin c.next-label-label.result.place)) (λ l. bind rest (λ ls. Ok (l ∷ ls)))) (sym c.in-Some.ensures.value)))
+          ∙ ap (prepend (take p found)) (sym (turn b ∙ ap (λ o. bind (ok_or o (UnknownPin c.next_label-label.result.place)) (λ l. bind rest (λ ls. Ok (l ∷ ls)))) (sym c.in-Some.ensures.value)))
           ∙ c.loop-p.invariant.0,
       open_step p c.in-Some.line found (omega arith) c.loop-p.invariant.1,
     )

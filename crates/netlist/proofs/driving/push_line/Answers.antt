@@ -5,15 +5,15 @@ use Rattle.circuit.specs.Spelled.{bytes_of}
 use Rattle.netlist.proofs.Pushed.{counted_push, filled_push, fed_push, numbered_push, distinct_push, shown_more}
 use Rattle.netlist.proofs.driving.push_line.Goals as goal
 
-pub invariant-of-draft : goal.invariant-of-draft
-invariant-of-draft c =
+pub invariant_of-draft : goal.invariant_of-draft
+invariant_of-draft c =
     let d = c.args.draft.now in
     let ls = vec_items d.lines in
-    let ms = vec_items c.push-reserved.new.self in
+    let ms = vec_items c.push_reserved.new.self in
     let l = c.args.line in
-    let e : ms ≡ ls ++ l ∷ [] = c.push-reserved.ensures.items in
+    let e : ms ≡ ls ++ l ∷ [] = c.push_reserved.ensures.items in
     let ok = c.requires.line in
-    let names : map bytes_of (vec_items c.push-reserved-2.new.self) ≡ map bytes_of (vec_items d.names) ++ bytes_of c.args.name ∷ [] = ap (map bytes_of) c.push-reserved-2.ensures.items ∙ map_push bytes_of (vec_items d.names) c.args.name in (
+    let names : map bytes_of (vec_items c.push_reserved-2.new.self) ≡ map bytes_of (vec_items d.names) ++ bytes_of c.args.name ∷ [] = ap (map bytes_of) c.push_reserved-2.ensures.items ∙ map_push bytes_of (vec_items d.names) c.args.name in (
       search rules,
       (
         search rules,
@@ -26,7 +26,7 @@ invariant-of-draft c =
               (
                 search rules,
                 (
-                  shown_more (vec_items d.outputs) _ _ (omega (arith, c.push-reserved.ensures.len)) d.shown,
+                  shown_more (vec_items d.outputs) _ _ (omega (arith, c.push_reserved.ensures.len)) d.shown,
                   (
                     subst Counted (sym e) (counted_push ls l ok d.counted),
                     (
@@ -51,6 +51,6 @@ invariant-of-draft c =
 pub returns : goal.returns
 returns c =
     let d = c.args.draft.now in
-    let lines = c.push-reserved.ensures.items in
-    let names = ap (map bytes_of) c.push-reserved-2.ensures.items ∙ map_push bytes_of (vec_items d.names) c.args.name in
+    let lines = c.push_reserved.ensures.items in
+    let names = ap (map bytes_of) c.push_reserved-2.ensures.items ∙ map_push bytes_of (vec_items d.names) c.args.name in
     λ i. record { lines = lines i; names = names i; outputs = vec_items d.outputs }
