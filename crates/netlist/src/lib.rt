@@ -1,5 +1,6 @@
 // The netlist reader: text in the bench notation becomes a circuit.
 #![tactic(auto)]
+
 mod driving;
 mod reading;
 mod statements;

@@ -13,20 +13,20 @@ use Rattle.netlist.specs.Driving.{Fits, with_line, resolve}
 use Rattle.netlist.proofs.Pushed.{inputs_append, fits_gate, resolved}
 use Rattle.netlist.proofs.Resolved.{fresh_name, pins_found, labels_length, gate_driven}
 use Rattle.netlist.proofs.driving.drive_gate.Goals as goal
-use Rattle.netlist.proofs.driving.drive_gate.Goals.{In-ok-found}
+use Rattle.netlist.proofs.driving.drive_gate.Goals.{In_ok-found}
 
-abbrev pin_labels : In-ok-found → List Named
+abbrev pin_labels : In_ok-found → List Named
 pin_labels c = labels c.args.pins.count (toks c.args.pins.scanner)
 
-abbrev line_of : In-ok-found → Line
+abbrev line_of : In_ok-found → Line
 line_of c = Gate (record { kind = c.args.kind; pins = c.in_ok-found.found; count = c.args.pins.count })
 
-pins : (c : In-ok-found) → (ls : List ℕ) × (resolve (plan_of c.args.draft.now).names (pin_labels c) ≡ Ok ls) × (length ls ≡ c.args.pins.count) × (line_of c ≡ Gate (gate_of c.args.kind ls))
+pins : (c : In_ok-found) → (ls : List ℕ) × (resolve (plan_of c.args.draft.now).names (pin_labels c) ≡ Ok ls) × (length ls ≡ c.args.pins.count) × (line_of c ≡ Gate (gate_of c.args.kind ls))
 pins c = pins_found c.args.kind c.args.pins.count c.in_ok-found.found (plan_of c.args.draft.now).names (pin_labels c) (labels_length _ _) c.in_ok-found.ensures
 
 pub push_line-requires : goal.push_line-requires
 push_line-requires c =
-    let b = (goal.at.push_line-requires c).In-ok-found in
+    let b = (goal.at.push_line-requires c).In_ok-found in
     let d = c.args.draft.now in
     let p = pins b in
     let same : length (plan_of d).names ≡ length (vec_items d.lines) = length-map (vec_items d.names) bytes_of ∙ sym d.names.ok.0 ∙ d.named ∙ d.lines.ok.0 in
@@ -39,7 +39,7 @@ push_line-requires c =
 
 pub returns : goal.returns
 returns c =
-    let b = (goal.at.returns c).In-ok-found in
+    let b = (goal.at.returns c).In_ok-found in
     let d = c.args.draft.now in
     let p = pins b in
     ap (λ q. Ok q) (c.push_line.ensures ∙ ap (with_line (plan_of d) (bytes_of c.in_ok-name.name)) p.3)

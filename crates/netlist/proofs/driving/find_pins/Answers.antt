@@ -10,12 +10,12 @@ use Rattle.netlist.specs.Statements.{named, labels, bind}
 use Rattle.netlist.specs.Driving.{resolve}
 use Rattle.netlist.proofs.Resolved.{resolve_turn, prepend, prepend_push, open_step, padded_front}
 use Rattle.netlist.proofs.driving.find_pins.Goals as goal
-use Rattle.netlist.proofs.driving.find_pins.Goals.{After-next-label-label}
+use Rattle.netlist.proofs.driving.find_pins.Goals.{After-next_label-label}
 
-abbrev names_in : After-next-label-label → List (List ℕ)
+abbrev names_in : After-next_label-label → List (List ℕ)
 names_in c = (plan_of c.args.draft.now).names
 
-turn : (c : After-next-label-label) → resolve (names_in c) (labels (c.args.pins.count - c.loop-p.p) (toks c.loop-p.scanner)) ≡ bind (ok_or (find (names_in c) c.next_label-label.result.bytes.now) (UnknownPin c.next_label-label.result.place)) (λ l. bind (resolve (names_in c) (labels (c.args.pins.count - c.loop-p.p - 1) (toks c.next_label-label.new.sc))) (λ ls. Ok (l ∷ ls)))
+turn : (c : After-next_label-label) → resolve (names_in c) (labels (c.args.pins.count - c.loop-p.p) (toks c.loop-p.scanner)) ≡ bind (ok_or (find (names_in c) c.next_label-label.result.bytes.now) (UnknownPin c.next_label-label.result.place)) (λ l. bind (resolve (names_in c) (labels (c.args.pins.count - c.loop-p.p - 1) (toks c.next_label-label.new.sc))) (λ ls. Ok (l ∷ ls)))
 turn c = resolve_turn (c.args.pins.count - c.loop-p.p) (toks c.loop-p.scanner) (toks c.next_label-label.new.sc) (named c.next_label-label.result) (omega arith) c.next_label-label.ensures.label c.next_label-label.ensures.rest (names_in c)
 
 pub returns-in-None : goal.returns-in-None

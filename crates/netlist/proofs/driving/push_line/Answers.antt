@@ -13,40 +13,21 @@ invariant_of-draft c =
     let l = c.args.line in
     let e : ms ≡ ls ++ l ∷ [] = c.push_reserved.ensures.items in
     let ok = c.requires.line in
-    let names : map bytes_of (vec_items c.push_reserved-2.new.self) ≡ map bytes_of (vec_items d.names) ++ bytes_of c.args.name ∷ [] = ap (map bytes_of) c.push_reserved-2.ensures.items ∙ map_push bytes_of (vec_items d.names) c.args.name in (
-      search rules,
-      (
-        search rules,
-        (
-          search rules,
-          (
-            c.requires.inputs.0 ∙ ap inputs_in (sym e),
-            (
-              search rules,
-              (
-                search rules,
-                (
-                  shown_more (vec_items d.outputs) _ _ (omega (arith, c.push_reserved.ensures.len)) d.shown,
-                  (
-                    subst Counted (sym e) (counted_push ls l ok d.counted),
-                    (
-                      subst Filled (sym e) (filled_push ls l ok d.filled),
-                      (
-                        subst Fed (sym e) (fed_push ls l ok d.fed),
-                        (
-                          subst Numbered (sym e) (numbered_push ls l ok d.numbered),
-                          (subst Distinct (sym names) (distinct_push (map bytes_of (vec_items d.names)) (bytes_of c.args.name) d.distinct c.requires.fresh), tt),
-                        ),
-                      ),
-                    ),
-                  ),
-                ),
-              ),
-            ),
-          ),
-        ),
-      ),
-    )
+    let names : map bytes_of (vec_items c.push_reserved-2.new.self) ≡ map bytes_of (vec_items d.names) ++ bytes_of c.args.name ∷ [] = ap (map bytes_of) c.push_reserved-2.ensures.items ∙ map_push bytes_of (vec_items d.names) c.args.name in
+    record {
+      room = search rules;
+      few = search rules;
+      named = search rules;
+      tallied = c.requires.inputs.0 ∙ ap inputs_in (sym e);
+      fewer = search rules;
+      slim = search rules;
+      shown = shown_more (vec_items d.outputs) _ _ (omega (arith, c.push_reserved.ensures.len)) d.shown;
+      counted = subst Counted (sym e) (counted_push ls l ok d.counted);
+      filled = subst Filled (sym e) (filled_push ls l ok d.filled);
+      fed = subst Fed (sym e) (fed_push ls l ok d.fed);
+      numbered = subst Numbered (sym e) (numbered_push ls l ok d.numbered);
+      distinct = subst Distinct (sym names) (distinct_push (map bytes_of (vec_items d.names)) (bytes_of c.args.name) d.distinct c.requires.fresh);
+    }
 
 pub returns : goal.returns
 returns c =

@@ -13,10 +13,10 @@ some : (c : After-new-scanner) → 0 < length c.loop-rest.rest.now
 some c = omega (arith, false-eqb _ 0 c.loop-rest-test.ensures)
 
 pub new-scanner-requires : goal.new-scanner-requires
-new-scanner-requires c = omega (arith, c.split_at.ensures.front-len, c.line_len.ensures.within, c.loop-rest.invariant.1, c.loop-rest.invariant.2)
+new-scanner-requires c = omega (arith, c.split_at.ensures.front_len, c.line_len.ensures.within, c.loop-rest.invariant.1, c.loop-rest.invariant.2)
 
 pub read_statement-requires : goal.read_statement-requires
-read_statement-requires c = omega (arith, c.new-scanner.ensures.size, c.split_at.ensures.front-len, c.line_len.ensures.within, c.loop-rest.invariant.1, c.loop-rest.invariant.2)
+read_statement-requires c = omega (arith, c.new-scanner.ensures.size, c.split_at.ensures.front_len, c.line_len.ensures.within, c.loop-rest.invariant.1, c.loop-rest.invariant.2)
 
 -- the scanner has the tokens of the line
 said : (c : After-new-scanner) → statement_of (toks c.new-scanner.result) ≡ statement_of (line_tokens c.loop-rest.line (take (run in_line c.loop-rest.rest.now) c.loop-rest.rest.now))

@@ -5,9 +5,9 @@ use Rattle.netlist.specs.Statements.{next_pin, want_name, plus, pins, more_pins}
 use Rattle.netlist.proofs.Gaps.{words_length}
 use Rattle.netlist.proofs.PinTurns.{pins_start, one_more, turn, stop, refuse}
 use Rattle.netlist.proofs.statements.read_pins.Goals as goal
-use Rattle.netlist.proofs.statements.read_pins.Goals.{In-ok-want-name, Then-branch}
+use Rattle.netlist.proofs.statements.read_pins.Goals.{In_ok-want_name, Then-branch}
 
-begun : (c : In-ok-want-name) → pins (toks c.args.sc.now) ≡ plus 1 (more_pins (toks c.next_token.new.self))
+begun : (c : In_ok-want_name) → pins (toks c.args.sc.now) ≡ plus 1 (more_pins (toks c.next_token.new.self))
 begun c = pins_start (toks c.args.sc.now) (toks c.next_token.new.self) _ (ap want_name (sym c.next_token.ensures.token) ∙ sym c.in_ok-want_name.ensures) c.next_token.ensures.rest
 
 yes_pin : (c : Then-branch) → next_pin (toks c.loop-count.sc) ≡ Ok true
@@ -17,7 +17,7 @@ pub returns-in_err-next_pin : goal.returns-in_err-next_pin
 returns-in_err-next_pin c =
     let p = err_from_is_err_and c.from_residual-in_err-next_pin.result c.from_residual-in_err-next_pin.ensures.1 in
     rw (p.1, p.2)
-    (sym (begun (goal.at.returns-in_err-next_pin c).In-ok-want_name ∙ sym c.loop-count.invariant.0 ∙ ap (plus c.loop-count.count) (refuse (toks c.loop-count.sc) _ (sym c.in_err-next_pin.ensures.value))))
+    (sym (begun (goal.at.returns-in_err-next_pin c).In_ok-want_name ∙ sym c.loop-count.invariant.0 ∙ ap (plus c.loop-count.count) (refuse (toks c.loop-count.sc) _ (sym c.in_err-next_pin.ensures.value))))
 
 pub overflow_add-count : goal.overflow_add-count
 overflow_add-count c =
@@ -45,4 +45,4 @@ loop-count-smaller c =
 pub returns : goal.returns
 returns c =
     let no_pin : next_pin (toks c.loop-count.sc) ≡ Ok false = sym c.in_ok-next_pin.ensures.value ∙ ap (λ b. Ok b) c.if-branch.false in
-    sym (begun (goal.at.returns c).In-ok-want_name ∙ sym c.loop-count.invariant.0 ∙ ap (plus c.loop-count.count) (stop (toks c.loop-count.sc) no_pin) ∙ ap (λ n. Ok n) (add-zero c.loop-count.count))
+    sym (begun (goal.at.returns c).In_ok-want_name ∙ sym c.loop-count.invariant.0 ∙ ap (plus c.loop-count.count) (stop (toks c.loop-count.sc) no_pin) ∙ ap (λ n. Ok n) (add-zero c.loop-count.count))
