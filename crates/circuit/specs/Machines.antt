@@ -87,13 +87,13 @@ abbrev pub stems : Machine → ℕ → List Line → List Bool
 stems m v ls = values binary (effect m) (bit_of v) ls
 
 -- a word has its first bit at bit 0
-abbrev pub word_of : (ℕ → Bool) → List ℕ → ℕ
-word_of seen [] = 0
-word_of seen (k ∷ ks) = cond (seen k) 1 0 + 2 * word_of seen ks
+abbrev pub word_from : (ℕ → Bool) → List ℕ → ℕ
+word_from seen [] = 0
+word_from seen (k ∷ ks) = cond (seen k) 1 0 + 2 * word_from seen ks
 
 -- a machine's output word: output j at bit j
 abbrev pub word : Plan → Machine → ℕ → ℕ
-word p m v = word_of (value_at binary (stems m v p.lines)) p.outputs
+word p m v = word_from (value_at binary (stems m v p.lines)) p.outputs
 
 -- a fault's fail word
 abbrev pub fail_word : Plan → Fault → ℕ → ℕ

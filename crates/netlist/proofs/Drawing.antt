@@ -3,7 +3,7 @@ use Rattle.std.proofs.Common.{◌≡◌, ℕ, ◌+◌, ◌-◌, ◌<◌, ◌≤�
 use Rattle.std.proofs.lemmas.List.{append_assoc, append-nil, take_at, get_or_at, get_or_append_left, length_push, length-take, length-map, length-append, length-replicate}
 use Rattle.std.proofs.ByRecursion.{All-from_get_or}
 use Rattle.std.proofs.lemmas.Bool.{and_from, le-leb, lt-leb, le-ltb, ne_eqb, cond-true}
-use Rattle.std.specs.List.{AllByRecursion as All}
+use Rattle.std.specs.List.{AllByRecursion}
 use Rattle.circuit.specs.Gates.{fits, least, most}
 use Rattle.circuit.specs.Names.{find}
 use Rattle.circuit.specs.Plans.{Plan, Sound}
@@ -60,12 +60,12 @@ driver_fitting p n (Gate g) c f =
     let e : length (map (name_at p) (pins_of (Gate g))) ≡ g.count = length-map (pins_of (Gate g)) (name_at p) ∙ pins_all (Gate g) c.1 f in
     subst (λ n. fits g.kind n ≡ true) (sym e) (and_from _ _ (le-leb (least g.kind) g.count c.0) (le-leb g.count (most g.kind) c.1))
 
-drivers_fitting : (p : Plan) (ns : List (List ℕ)) (ls : List Line) → All (λ l. (least_pins l ≤ pin_count l) × (pin_count l ≤ most_pins l)) ls → All (λ l. places l ≡ filled l) ls → All Fitting (drivers p ns ls)
+drivers_fitting : (p : Plan) (ns : List (List ℕ)) (ls : List Line) → AllByRecursion (λ l. (least_pins l ≤ pin_count l) × (pin_count l ≤ most_pins l)) ls → AllByRecursion (λ l. places l ≡ filled l) ls → AllByRecursion Fitting (drivers p ns ls)
 drivers_fitting p [] ls c f = tt
 drivers_fitting p (n ∷ ns) [] c f = tt
 drivers_fitting p (n ∷ ns) (l ∷ ls) c f = (driver_fitting p n l c.0 f.0, drivers_fitting p ns ls c.1 f.1)
 
-driving_fitting : (ss : List Said) → All Fitting (driving ss) → All Fitting ss
+driving_fitting : (ss : List Said) → AllByRecursion Fitting (driving ss) → AllByRecursion Fitting ss
 driving_fitting [] h = tt
 driving_fitting (input n ∷ ss) h = (tt, driving_fitting ss h.1)
 driving_fitting (output n ∷ ss) h = (tt, driving_fitting ss h)
@@ -81,9 +81,9 @@ short_by : (n : Named) (w : List ℕ) → n.bytes ≡ w → length w ≤ 16 → 
 short_by n w e h = le-ltb 16 (length n.bytes) (omega (arith, ap length e))
 
 module _ (P : Plan) (sound : Sound P) where
-  pub makes_fitting : (ss : List Said) → driving ss ≡ drivers P P.names P.lines → All Fitting ss
+  pub makes_fitting : (ss : List Said) → driving ss ≡ drivers P P.names P.lines → AllByRecursion Fitting ss
   makes_fitting ss e =
-      driving_fitting ss (subst (All Fitting) (sym e)
+      driving_fitting ss (subst (AllByRecursion Fitting) (sym e)
       (drivers_fitting P P.names P.lines (All-from_get_or _ P.lines shape.blank sound.counted) (All-from_get_or _ P.lines shape.blank sound.filled)))
 
   -- the names that are driven already, and those to come
@@ -102,7 +102,7 @@ module _ (P : Plan) (sound : Sound P) where
     short_name : (i : ℕ) (w : List ℕ) → i < length dn → w ≡ name_at P i → length w ≤ 16
     short_name i w lt e = let n = within_names in omega (arith, ap length e, sound.short i (omega arith))
 
-    pins_read : (ns : List Named) (ps : List ℕ) → map bytes_at ns ≡ map (name_at P) ps → All (λ i. i < length dn) ps → (short_pins ns ≡ Ok tt) × (resolve dn ns ≡ Ok ps)
+    pins_read : (ns : List Named) (ps : List ℕ) → map bytes_at ns ≡ map (name_at P) ps → AllByRecursion (λ i. i < length dn) ps → (short_pins ns ≡ Ok tt) × (resolve dn ns ≡ Ok ps)
     pins_read [] [] e h = (refl, refl)
     pins_read [] (i ∷ ps) e h = clash (cc)
     pins_read (n ∷ ns) [] e h = clash (cc)
@@ -176,7 +176,7 @@ module _ (P : Plan) (sound : Sound P) where
         let room = line_within dl rl (Gate g) lines in
         let few = sound.few_lines in
         let f = next_fits dl rl (Gate g) lines in
-        let low : All (λ i. i < length dn) (pins_of (Gate g)) = subst (λ n. All (λ i. i < n) (pins_of (Gate g))) size (pins_below (Gate g) (length dl) f.fed) in
+        let low : AllByRecursion (λ i. i < length dn) (pins_of (Gate g)) = subst (λ n. AllByRecursion (λ i. i < n) (pins_of (Gate g))) size (pins_below (Gate g) (length dl) f.fed) in
         let pins = pins_read dn (w ∷ rn) names ns (pins_of (Gate g)) es low in
         let short : long n ≡ false = short_by n w e (next_short dn rn w names) in
         let roomy : full q ≡ false = lt-leb 1024 (length dl) (omega arith) in
@@ -208,7 +208,7 @@ module _ (P : Plan) (sound : Sound P) where
     size : length dl ≡ length dn
     driven : driving ss ≡ drivers P to_name to_drive
     shown : showing ss ≡ map (λ o. output (name_at P o)) to_show
-    within : All (λ o. o < length P.names) to_show
+    within : AllByRecursion (λ o. o < length P.names) to_show
     few : a + length to_show ≤ 63
 
   -- the line that statement s drives
@@ -224,7 +224,7 @@ module _ (P : Plan) (sound : Sound P) where
 
   module _ (dl : List Line) (dn : List (List ℕ)) (a : ℕ) where
     next_of : (s : Said) (ss : List Said) (ls : List Line) (ns : List (List ℕ)) (os : List ℕ) → dl ++ ls ≡ P.lines → dn ++ ns ≡ P.names → length dl ≡ length dn → s ∷ driving ss ≡ drivers P ns ls
-        → showing ss ≡ map (λ o. output (name_at P o)) os → All (λ o. o < length P.names) os → a + length os ≤ 63 → Next dl dn a s ss
+        → showing ss ≡ map (λ o. output (name_at P o)) os → AllByRecursion (λ o. o < length P.names) os → a + length os ≤ 63 → Next dl dn a s ss
     next_of s ss ls [] os lines names size e shown within few = clash (cc)
     next_of s ss [] (n ∷ ns) os lines names size e shown within few = clash (cc)
     next_of s ss (l ∷ ls) (n ∷ ns) os lines names size e shown within few =
@@ -264,7 +264,7 @@ module _ (P : Plan) (sound : Sound P) where
     left : Left lines names asked ss
 
   module _ (dl : List Line) (dn : List (List ℕ)) (a : ℕ) where
-    asks : (n : Named) (ss : List Said) (os : List ℕ) → Left dl dn a (output n.bytes ∷ ss) → output n.bytes ∷ showing ss ≡ map (λ o. output (name_at P o)) os → All (λ o. o < length P.names) os → a + length os ≤ 63 → Stepped dl dn a (stmt.output n) ss
+    asks : (n : Named) (ss : List Said) (os : List ℕ) → Left dl dn a (output n.bytes ∷ ss) → output n.bytes ∷ showing ss ≡ map (λ o. output (name_at P o)) os → AllByRecursion (λ o. o < length P.names) os → a + length os ≤ 63 → Stepped dl dn a (stmt.output n) ss
     asks n ss [] r e within few = clash (cc)
     asks n ss (o ∷ os) r e within few =
         let b : n.bytes ≡ name_at P o = cc in

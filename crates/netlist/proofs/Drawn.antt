@@ -4,7 +4,7 @@ use Rattle.std.proofs.lemmas.List.{append_assoc, append-nil, take_at, get_or_app
 use Rattle.std.proofs.ByRecursion.{All-get_or, All-from_get_or, All-append, All-weaker}
 use Rattle.std.proofs.lemmas.Bool.{leb-false, ltb-false, eqb-false}
 use Rattle.std.specs.Option.{ok_or}
-use Rattle.std.specs.List.{AllByRecursion as All}
+use Rattle.std.specs.List.{AllByRecursion}
 use Rattle.circuit.specs.Gates.{fits}
 use Rattle.circuit.specs.Names.{find}
 use Rattle.circuit.specs.Plans.{Plan, empty}
@@ -74,21 +74,21 @@ grown_none =
 fits_input : (ls : List Line) → Fits ls (Input (inputs_in ls))
 fits_input ls = record { counted = (omega arith, omega arith); filled = refl; fed = λ p h. absurd (omega arith); numbered = λ _. refl }
 
-map_same : {X Y : Type 0} (f g : X → Y) (xs : List X) → All (λ x. f x ≡ g x) xs → map f xs ≡ map g xs
+map_same : {X Y : Type 0} (f g : X → Y) (xs : List X) → AllByRecursion (λ x. f x ≡ g x) xs → map f xs ≡ map g xs
 map_same f g [] h = refl
 map_same f g (x ∷ xs) h = let a = h.0 in let b = map_same f g xs h.1 in cc
 
-pub pins_below : (l : Line) (n : ℕ) → ((p : ℕ) → p < pin_count l → pin_from l p < n) → All (λ i. i < n) (pins_of l)
+pub pins_below : (l : Line) (n : ℕ) → ((p : ℕ) → p < pin_count l → pin_from l p < n) → AllByRecursion (λ i. i < n) (pins_of l)
 pins_below (Input j) n h = tt
 pins_below (Gate g) n h =
     All-from_get_or (λ i. i < n) (take g.count g.pins) 0
     (λ i lt. let s : i < g.count = omega (arith, length-take g.count g.pins) in rw (get_or-take g.count g.pins i 0 s) (h i s))
 
-driver_same : (p q : Plan) (n : List ℕ) (l : Line) → All (λ i. name_at p i ≡ name_at q i) (pins_of l) → driver p n l ≡ driver q n l
+driver_same : (p q : Plan) (n : List ℕ) (l : Line) → AllByRecursion (λ i. name_at p i ≡ name_at q i) (pins_of l) → driver p n l ≡ driver q n l
 driver_same p q n (Input j) h = refl
 driver_same p q n (Gate g) h = ap (gate n g.kind) (map_same (name_at p) (name_at q) (pins_of (Gate g)) h)
 
-drivers_same : (p q : Plan) (ns : List (List ℕ)) (ls : List Line) → All (λ l. All (λ i. name_at p i ≡ name_at q i) (pins_of l)) ls → drivers p ns ls ≡ drivers q ns ls
+drivers_same : (p q : Plan) (ns : List (List ℕ)) (ls : List Line) → AllByRecursion (λ l. AllByRecursion (λ i. name_at p i ≡ name_at q i) (pins_of l)) ls → drivers p ns ls ≡ drivers q ns ls
 drivers_same p q [] ls h = refl
 drivers_same p q (n ∷ ns) [] h = refl
 drivers_same p q (n ∷ ns) (l ∷ ls) h = let a = driver_same p q n l h.0 in let b = drivers_same p q ns ls h.1 in cc
@@ -148,7 +148,7 @@ adds_input p q n g e =
       drivers_with_line p w l (input n.bytes) g (ap input (sym s.1)),
     )
 
-gate_driver : (p : Plan) (w : List ℕ) (k : Kind) (ns : List Named) (ls : List ℕ) → All (λ i. i < length p.names) ls → map (name_at p) ls ≡ map bytes_at ns → driver (with_line p w (Gate (gate_of k ls))) w (Gate (gate_of k ls)) ≡ gate w k (map bytes_at ns)
+gate_driver : (p : Plan) (w : List ℕ) (k : Kind) (ns : List Named) (ls : List ℕ) → AllByRecursion (λ i. i < length p.names) ls → map (name_at p) ls ≡ map bytes_at ns → driver (with_line p w (Gate (gate_of k ls))) w (Gate (gate_of k ls)) ≡ gate w k (map bytes_at ns)
 gate_driver p w k ns ls h e =
     let q = with_line p w (Gate (gate_of k ls)) in
     ap (λ ps. gate w k (map (name_at q) ps)) (take_at ls _ (length ls) refl)
@@ -167,7 +167,7 @@ adds_gate p q n k ns g f e =
     let s = short_ok n w a.1 in
     let found = resolved p.names ns ls r.1 in
     let size : length (map bytes_at ns) ≡ length ls = sym (ap length found.1) ∙ length-map ls (name_at p) in
-    let low : All (λ i. i < length p.lines) ls = subst (λ n. All (λ i. i < n) ls) g.named found.0 in
+    let low : AllByRecursion (λ i. i < length p.lines) ls = subst (λ n. AllByRecursion (λ i. i < n) ls) g.named found.0 in
     let made = r.2 in
     let z : with_line p w l ≡ q = cc in
     subst (Adds p (gate n.bytes k (map bytes_at ns) ∷ [])) z (
@@ -175,7 +175,7 @@ adds_gate p q n k ns g f e =
       drivers_with_line p w l (gate n.bytes k (map bytes_at ns)) g (gate_driver p w k ns ls found.0 found.1 ∙ ap (λ w. gate w k (map bytes_at ns)) (sym s.1)),
     )
 
-adds : (p : Plan) (m : ℕ) (t : State) (st : Stmt) → Grown p → All Fitting (said_of st) → drive p m st ≡ Ok t → Adds p (said_of st) t.plan
+adds : (p : Plan) (m : ℕ) (t : State) (st : Stmt) → Grown p → AllByRecursion Fitting (said_of st) → drive p m st ≡ Ok t → Adds p (said_of st) t.plan
 adds p m t stmt.blank g f e = let z : p ≡ t.plan = cc in subst (Adds p []) z (g, sym (append-nil _))
 adds p m t (stmt.input n) g f e =
     let a = bind_ok (drive_input p n) _ t e in
@@ -205,7 +205,7 @@ showing_append (input n ∷ ss) ts = showing_append ss ts
 showing_append (output n ∷ ss) ts = ap (λ ds. output n ∷ ds) (showing_append ss ts)
 showing_append (gate n k ns ∷ ss) ts = showing_append ss ts
 
-drawn : (s t : State) (sts : List Stmt) → Grown s.plan → All Fitting (said sts) → fold Drive s sts ≡ Ok t → Adds s.plan (said sts) t.plan
+drawn : (s t : State) (sts : List Stmt) → Grown s.plan → AllByRecursion Fitting (said sts) → fold Drive s sts ≡ Ok t → Adds s.plan (said sts) t.plan
 drawn s t [] g f e = let z : s.plan ≡ t.plan = cc in subst (Adds s.plan []) z (g, sym (append-nil _))
 drawn s t (st ∷ sts) g f e =
     let h = all_parts Fitting (said_of st) (said sts) f in
@@ -221,7 +221,7 @@ with_outputs p os = record { lines = p.lines; names = p.names; outputs = p.outpu
 record Shows (p : Plan) (ss : List Said) (q : Plan) : Type 0 where
   shown : List ℕ
   after : q ≡ with_outputs p shown
-  within : All (λ o. o < length p.names) shown
+  within : AllByRecursion (λ o. o < length p.names) shown
   named : showing ss ≡ map (λ o. output (name_at p o)) shown
   few : length p.outputs ≤ 63 → length q.outputs ≤ 63
 
@@ -253,7 +253,7 @@ shows_more p q r ss ts a b =
     let ls : q.lines ≡ p.lines = ap (λ p. p.lines) a.after in
     let x = b.after in
     let y = append_assoc p.outputs a.shown b.shown in
-    let w : All (λ o. o < length p.names) b.shown = subst (λ ns. All (λ o. o < length ns) b.shown) ns b.within in
+    let w : AllByRecursion (λ o. o < length p.names) b.shown = subst (λ ns. AllByRecursion (λ o. o < length ns) b.shown) ns b.within in
     let m : showing ts ≡ map (λ o. output (name_at p o)) b.shown = subst (λ ns. showing ts ≡ map (λ o. output (get_or ns o [])) b.shown) ns b.named in
     record {
       shown = a.shown ++ b.shown;
@@ -287,7 +287,7 @@ whole_ok q p e =
     (omega arith, omega arith, cc)
 
 -- a circuit in the making, with its outputs
-makes_shown : (q : Plan) (os : List ℕ) (ss : List Said) → Grown q → driving ss ≡ drivers q q.names q.lines → showing ss ≡ map (λ o. output (name_at q o)) os → All (λ o. o < length q.names) os
+makes_shown : (q : Plan) (os : List ℕ) (ss : List Said) → Grown q → driving ss ≡ drivers q q.names q.lines → showing ss ≡ map (λ o. output (name_at q o)) os → AllByRecursion (λ o. o < length q.names) os
     → 1 ≤ inputs_in q.lines → 1 ≤ length os → length os ≤ 63 → Makes ss (record { lines = q.lines; names = q.names; outputs = os })
 makes_shown q os ss g d s within inputs outputs few =
     record {
@@ -310,7 +310,7 @@ makes_shown q os ss g d s within inputs outputs few =
       outputs = s;
     }
 
-pub makes : (s t : State) (p : Plan) (sts : List Stmt) → All Fitting (said sts) → fold Drive start sts ≡ Ok s → fold Show s sts ≡ Ok t → whole t.plan ≡ Ok p → Makes (said sts) p
+pub makes : (s t : State) (p : Plan) (sts : List Stmt) → AllByRecursion Fitting (said sts) → fold Drive start sts ≡ Ok s → fold Show s sts ≡ Ok t → whole t.plan ≡ Ok p → Makes (said sts) p
 makes s t p sts f e1 e2 e3 =
     let q = s.plan in
     let a = drawn start s sts grown_none f e1 in

@@ -1,6 +1,6 @@
 -- A line that is read as a statement holds that statement.
 use Rattle.std.proofs.Common.{◌≡◌, ℕ, zero, suc, ◌+◌, ◌≤◌, Bool, true, false, cond, not, eqb, ◌⊎◌, List, [], ◌∷◌, ◌++◌, map, length, get_or, Ok, Err, codes, Result, sym, refl, ap, ◌∙◌, subst, inl, inr, ⊎_elim, arith}
-use Rattle.std.specs.List.{AllByRecursion as All}
+use Rattle.std.specs.List.{AllByRecursion}
 use Rattle.std.proofs.lemmas.List.{length-map}
 use Rattle.std.proofs.lemmas.Bool.{cond_both, both_ways, eqb-true, not-false}
 use Rattle.circuit.specs.Gates.{kind_word, fits}
@@ -258,20 +258,20 @@ statement_told ts st r =
     let s = said_first (name p.0.bytes) r (want_name_ok (first ts) p.0 p.1) refl in
     subst (λ ws. Told ws (said_of st)) (sym s.0) (form_told p.0 (after ts) st s.1 p.2))
 
-pins_plain : (ns : List (List ℕ)) → All Plain (pin_words ns)
+pins_plain : (ns : List (List ℕ)) → AllByRecursion Plain (pin_words ns)
 pins_plain [] = (tt, tt)
 pins_plain (n ∷ []) = (tt, (tt, tt))
 pins_plain (n ∷ m ∷ ns) = (tt, (tt, pins_plain (m ∷ ns)))
 
-words_plain : (s : Said) → All Plain (words_of s)
+words_plain : (s : Said) → AllByRecursion Plain (words_of s)
 words_plain (input n) = (tt, (tt, (tt, (tt, tt))))
 words_plain (output n) = (tt, (tt, (tt, (tt, tt))))
 words_plain (gate n k ns) = (tt, (tt, (tt, (tt, pins_plain ns))))
 
-told_holds : (l e : ℕ) (bs : List ℕ) (ss : List Said) → Told (said (words l e 0 bs)) ss → Holds bs ss × All Fitting ss
+told_holds : (l e : ℕ) (bs : List ℕ) (ss : List Said) → Told (said (words l e 0 bs)) ss → Holds bs ss × AllByRecursion Fitting ss
 told_holds l e bs [] q = (none (words_spell l e bs [] tt q), tt)
 told_holds l e bs (s ∷ []) q = (one q.0 (words_spell l e bs (words_of s) (words_plain s) q.2), (q.1, tt))
 told_holds l e bs (s ∷ t ∷ ss) q = absurd q
 
-pub line_holds : (l : ℕ) (bs : List ℕ) (st : Stmt) → statement_of (line_tokens l bs) ≡ Ok st → Holds bs (said_of st) × All Fitting (said_of st)
+pub line_holds : (l : ℕ) (bs : List ℕ) (st : Stmt) → statement_of (line_tokens l bs) ≡ Ok st → Holds bs (said_of st) × AllByRecursion Fitting (said_of st)
 line_holds l bs st e = told_holds l _ bs (said_of st) (statement_told (line_tokens l bs) st (words_end l _ 0 bs) e)

@@ -1,7 +1,7 @@
 -- A line that holds a statement is read as that statement.
 use Rattle.std.proofs.Common.{◌≡◌, ℕ, ◌≤◌, true, false, List, [], ◌∷◌, ◌++◌, map, length, Ok, Result, refl, ap, ◌∙◌, one-add, arith}
 use Rattle.std.specs.Option.{ok_or}
-use Rattle.std.specs.List.{AllByRecursion as All}
+use Rattle.std.specs.List.{AllByRecursion}
 use Rattle.circuit.specs.Gates.{kind_word, fits}
 use Rattle.circuit.specs.declared.kinds.Kind.{Kind}
 use Rattle.circuit.specs.declared.refusals.Refusal.{Refusal}
@@ -120,7 +120,7 @@ said_reads (gate n k ns) ts p f q =
     let a = ap spelling (head_is ts _ _ q) in
     (stmt.gate m k r.0, form_reads ts _ _ OneGate q (form_gate n p.1 p.2) ∙ r.1, (λ i. gate (a i) k (r.2 i) ∷ []))
 
-pub line_reads : (l : ℕ) (bs : List ℕ) (ss : List Said) → All Fitting ss → Holds bs ss → (st : Stmt) × (statement_of (line_tokens l bs) ≡ Ok st) × (said_of st ≡ ss)
+pub line_reads : (l : ℕ) (bs : List ℕ) (ss : List Said) → AllByRecursion Fitting ss → Holds bs ss → (st : Stmt) × (statement_of (line_tokens l bs) ≡ Ok st) × (said_of st ≡ ss)
 line_reads l bs ss f (none h) =
     let b = ap is_end (head_is (line_tokens l bs) _ _ (words_spelt l _ h)) in
     (stmt.blank, rw b, refl)

@@ -4,7 +4,7 @@ use Rattle.std.proofs.lemmas.List.{length_push, get_or_push, get_or_append_left,
 use Rattle.std.proofs.ByRecursion.{All-get_or}
 use Rattle.std.proofs.lemmas.Bool.{cases_lt, and_parts, leb-true, both_ways}
 use Rattle.std.specs.Option.{ok_or}
-use Rattle.std.specs.List.{AllByRecursion as All}
+use Rattle.std.specs.List.{AllByRecursion}
 use Rattle.circuit.specs.Gates.{fits, least, most}
 use Rattle.circuit.specs.Names.{find}
 use Rattle.circuit.specs.Shape.{blank, is_input, input_at, pin_count, pin_from, least_pins, most_pins, places, filled, padded, gate_of, inputs_in, Counted, Filled, Fed, Numbered, Distinct, Shown}
@@ -60,7 +60,7 @@ shown_more os n m le h j lt = omega (arith, h j lt)
 pub shown_push : (os : List ℕ) (o n : ℕ) → o < n → Shown os n → Shown (os ++ o ∷ []) n
 shown_push os o n lt h = every_push 0 (λ i x. x < n) os o h lt
 
-pub fits_gate : (ls : List Line) (k : Kind) (ps : List ℕ) → fits k (length ps) ≡ true → All (λ i. i < length ls) ps → Fits ls (Gate (gate_of k ps))
+pub fits_gate : (ls : List Line) (k : Kind) (ps : List ℕ) → fits k (length ps) ≡ true → AllByRecursion (λ i. i < length ls) ps → Fits ls (Gate (gate_of k ps))
 fits_gate ls k ps f h =
     let c = and_parts (leb (least k) (length ps)) (leb (length ps) (most k)) f in
     record {
@@ -71,8 +71,8 @@ fits_gate ls k ps f h =
     }
 
 -- the pins found are lines, and their names are those asked for
-pub resolved : (names : List (List ℕ)) (ns : List Named) (ls : List ℕ) → resolve names ns ≡ Ok ls → All (λ i. i < length names) ls × (map (λ i. get_or names i []) ls ≡ map bytes_at ns)
-resolved names [] ls e = let z : [] ≡ ls = cc in subst (λ ls. All (λ i. i < length names) ls × (map (λ i. get_or names i []) ls ≡ [])) z (tt, refl)
+pub resolved : (names : List (List ℕ)) (ns : List Named) (ls : List ℕ) → resolve names ns ≡ Ok ls → AllByRecursion (λ i. i < length names) ls × (map (λ i. get_or names i []) ls ≡ map bytes_at ns)
+resolved names [] ls e = let z : [] ≡ ls = cc in subst (λ ls. AllByRecursion (λ i. i < length names) ls × (map (λ i. get_or names i []) ls ≡ [])) z (tt, refl)
 resolved names (n ∷ ns) ls e =
     let a = bind_ok (ok_or (find names n.bytes) _) (λ l. bind (resolve names ns) (λ ls. Ok (l ∷ ls))) ls e in
     let b = bind_ok (resolve names ns) (λ ls. Ok (a.0 ∷ ls)) ls a.2 in
@@ -81,4 +81,4 @@ resolved names (n ∷ ns) ls e =
     let z : a.0 ∷ b.0 ≡ ls = (let y = b.2 in cc) in
     let x = f.1 in
     let y = r.1 in
-    subst (λ ls. All (λ i. i < length names) ls × (map (λ i. get_or names i []) ls ≡ map bytes_at (n ∷ ns))) z ((f.0, r.0), cc)
+    subst (λ ls. AllByRecursion (λ i. i < length names) ls × (map (λ i. get_or names i []) ls ≡ map bytes_at (n ∷ ns))) z ((f.0, r.0), cc)

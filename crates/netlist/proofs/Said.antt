@@ -1,6 +1,6 @@
 -- A statement without its places, and the law of one line.
 use Rattle.std.proofs.Common.{◌≡◌, ℕ, true, List, [], ◌∷◌, map, length, Ok}
-use Rattle.std.specs.List.{AllByRecursion as All}
+use Rattle.std.specs.List.{AllByRecursion}
 use Rattle.circuit.specs.Gates.{fits}
 use Rattle.circuit.specs.Plans.{empty}
 use Rattle.netlist.specs.Tokens.{line_tokens}
@@ -28,8 +28,8 @@ Fitting (gate n k ns) = fits k (length ns) ≡ true
 
 -- a line is read as a statement exactly where it holds that statement
 pub record LineLaw : Type 0 where
-  pub reads : (l : ℕ) (bs : List ℕ) (ss : List Said) → All Fitting ss → Holds bs ss → (st : Stmt) × (statement_of (line_tokens l bs) ≡ Ok st) × (said_of st ≡ ss)
-  pub holds : (l : ℕ) (bs : List ℕ) (st : Stmt) → statement_of (line_tokens l bs) ≡ Ok st → Holds bs (said_of st) × All Fitting (said_of st)
+  pub reads : (l : ℕ) (bs : List ℕ) (ss : List Said) → AllByRecursion Fitting ss → Holds bs ss → (st : Stmt) × (statement_of (line_tokens l bs) ≡ Ok st) × (said_of st ≡ ss)
+  pub holds : (l : ℕ) (bs : List ℕ) (st : Stmt) → statement_of (line_tokens l bs) ≡ Ok st → Holds bs (said_of st) × AllByRecursion Fitting (said_of st)
 
 -- nothing told yet
 abbrev pub start : State

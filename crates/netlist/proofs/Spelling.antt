@@ -1,6 +1,6 @@
 -- The tokens of a line are the words that its bytes spell.
 use Rattle.std.proofs.Common.{◌≡◌, ℕ, zero, suc, Bool, true, false, cond, eqb, List, [], ◌∷◌, ◌++◌, map, length, take, drop, sym, refl, ap, ◌∙◌, subst, arith}
-use Rattle.std.specs.List.{AllByRecursion as All}
+use Rattle.std.specs.List.{AllByRecursion}
 use Rattle.std.proofs.lemmas.List.{take_at, drop_at, take-append-drop}
 use Rattle.std.proofs.lemmas.Bool.{cond_both, both_ways, ne_eqb, eqb-true, or_from}
 use Rattle.netlist.specs.Tokens.{Tok, Word, name, open_sign, close_sign, comma, equals, stray, end, name_byte, space_byte, run, spelling, sign_word, first_word, is_end, words}
@@ -41,9 +41,9 @@ no_name : (bs : List ℕ) → begins_name bs ≡ false → run name_byte bs ≡ 
 no_name [] a = refl
 no_name (b ∷ bs) a = rw a
 
-run_all : (p : ℕ → Bool) (bs : List ℕ) → All (λ b. p b ≡ true) (take (run p bs) bs)
+run_all : (p : ℕ → Bool) (bs : List ℕ) → AllByRecursion (λ b. p b ≡ true) (take (run p bs) bs)
 run_all p [] = tt
-run_all p (b ∷ bs) = cond_both (p b) _ _ (λ n. All (λ b. p b ≡ true) (take n (b ∷ bs))) (λ h. (h, run_all p bs)) (λ h. tt)
+run_all p (b ∷ bs) = cond_both (p b) _ _ (λ n. AllByRecursion (λ b. p b ≡ true) (take n (b ∷ bs))) (λ h. (h, run_all p bs)) (λ h. tt)
 
 run_ends : (bs : List ℕ) → begins_name (drop (run name_byte bs) bs) ≡ false
 run_ends [] = refl
@@ -71,7 +71,7 @@ module _ (l e : ℕ) where
   words_spelt (separator {b} {bs} {ws} h s) = let n = space_no_hash b h in rw (n, h) (words_spelt s)
   words_spelt (word {w} {bs} {ws} h a s) = one_word w bs h a ∙ ap (λ us. w ∷ us) (words_spelt s)
 
-only_end : (ws : List Word) → All Plain ws → end ∷ [] ≡ ws ++ end ∷ [] → [] ≡ ws
+only_end : (ws : List Word) → AllByRecursion Plain ws → end ∷ [] ≡ ws ++ end ∷ [] → [] ≡ ws
 only_end [] h q = refl
 only_end (w ∷ ws) h q = let z : end ≡ w = cc in absurd (subst Plain (sym z) h.0)
 
@@ -107,10 +107,10 @@ module _ (b : ℕ) (bs : List ℕ) (ws : List Word) where
       go false t s = sign_spells s
 
 abbrev Back : ℕ → ℕ → ℕ → List ℕ → List Word → Type 0
-Back l e k bs ws = All Plain ws → said (words l e k bs) ≡ ws ++ end ∷ [] → Spells (drop k bs) ws
+Back l e k bs ws = AllByRecursion Plain ws → said (words l e k bs) ≡ ws ++ end ∷ [] → Spells (drop k bs) ws
 
 module _ (l e b : ℕ) (bs : List ℕ) (rest : (k : ℕ) (ws : List Word) → Back l e k bs ws) where
-  front_spells : (ws : List Word) → All Plain ws → first_word (b ∷ bs) ∷ said (words l e (name_rest b bs) bs) ≡ ws ++ end ∷ [] → Spells (b ∷ bs) ws
+  front_spells : (ws : List Word) → AllByRecursion Plain ws → first_word (b ∷ bs) ∷ said (words l e (name_rest b bs) bs) ≡ ws ++ end ∷ [] → Spells (b ∷ bs) ws
   front_spells [] h q =
       let z : first_word (b ∷ bs) ≡ end = cc in
       absurd (both_ways _ (not_end b bs) (ap is_end z))
@@ -135,5 +135,5 @@ module _ (l e : ℕ) where
   rest_spells (b ∷ bs) (suc k) ws h q = rest_spells bs k ws h q
   rest_spells (b ∷ bs) zero ws h q = line_spells l e b bs (rest_spells bs) ws h q
 
-  pub words_spell : (bs : List ℕ) (ws : List Word) → All Plain ws → said (words l e 0 bs) ≡ ws ++ end ∷ [] → Spells bs ws
+  pub words_spell : (bs : List ℕ) (ws : List Word) → AllByRecursion Plain ws → said (words l e 0 bs) ≡ ws ++ end ∷ [] → Spells bs ws
   words_spell bs ws h q = rest_spells bs 0 ws h q

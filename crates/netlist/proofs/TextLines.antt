@@ -3,7 +3,7 @@ use Rattle.std.proofs.Common.{◌≡◌, ℕ, suc, ◌+◌, ◌≤◌, true, fal
 use Rattle.std.proofs.lemmas.List.{append_assoc, append-nil, take_at, take_all, drop_all, drop_at, length-append}
 use Rattle.std.proofs.ByRecursion.{All-append}
 use Rattle.std.proofs.lemmas.Bool.{cases_Bool, eqb-true, not-false}
-use Rattle.std.specs.List.{flat_map, AllByRecursion as All}
+use Rattle.std.specs.List.{flat_map, AllByRecursion}
 use Rattle.circuit.specs.declared.refusals.Refusal.{Refusal}
 use Rattle.netlist.specs.Tokens.{run, line_tokens, Word, name, open_sign, close_sign, comma, equals, stray, end, spelling}
 use Rattle.netlist.specs.Statements.{Stmt, bind, statement_of}
@@ -19,10 +19,10 @@ use Rattle.netlist.proofs.Runs.{run_front}
 -- a text and its lines; a last line that is empty is none
 data Lines : List ℕ → List (List ℕ) → Type 0 where
   no_line : Lines [] []
-  one_line : {b : ℕ} {bs : List ℕ} → All (λ b. in_line b ≡ true) (b ∷ bs) → Lines (b ∷ bs) ((b ∷ bs) ∷ [])
-  more : {bs rest : List ℕ} {ls : List (List ℕ)} → All (λ b. in_line b ≡ true) bs → Lines rest ls → Lines (bs ++ 10 ∷ rest) (bs ∷ ls)
+  one_line : {b : ℕ} {bs : List ℕ} → AllByRecursion (λ b. in_line b ≡ true) (b ∷ bs) → Lines (b ∷ bs) ((b ∷ bs) ∷ [])
+  more : {bs rest : List ℕ} {ls : List (List ℕ)} → AllByRecursion (λ b. in_line b ≡ true) bs → Lines rest ls → Lines (bs ++ 10 ∷ rest) (bs ∷ ls)
 
-lines_one : (b : ℕ) (bs : List ℕ) → All (λ b. in_line b ≡ true) (b ∷ bs) → lines_of (b ∷ bs) ≡ (b ∷ bs) ∷ []
+lines_one : (b : ℕ) (bs : List ℕ) → AllByRecursion (λ b. in_line b ≡ true) (b ∷ bs) → lines_of (b ∷ bs) ≡ (b ∷ bs) ∷ []
 lines_one b bs h =
     let r : run in_line (b ∷ bs) ≡ length (b ∷ bs) = ap (run in_line) (sym (append-nil (b ∷ bs))) ∙ run_front in_line (b ∷ bs) [] h refl in
     let n = run in_line (b ∷ bs) in
@@ -30,7 +30,7 @@ lines_one b bs h =
     let d : drop (suc n) (b ∷ bs) ≡ [] = drop_all (suc n) (b ∷ bs) (omega arith) in
     lines_turn (b ∷ bs) (omega arith) ∙ ap (λ x. x ∷ lines_of (drop (suc n) (b ∷ bs))) t ∙ ap (λ x. (b ∷ bs) ∷ lines_of x) d
 
-lines_more : (bs rest : List ℕ) → All (λ b. in_line b ≡ true) bs → lines_of (bs ++ 10 ∷ rest) ≡ bs ∷ lines_of rest
+lines_more : (bs rest : List ℕ) → AllByRecursion (λ b. in_line b ≡ true) bs → lines_of (bs ++ 10 ∷ rest) ≡ bs ∷ lines_of rest
 lines_more bs rest h =
     let s = bs ++ 10 ∷ rest in
     let r = run_front in_line bs (10 ∷ rest) h refl in
@@ -120,18 +120,18 @@ empty_holds : {bs : List ℕ} {ss : List Said} → length bs ≡ 0 → Holds bs 
 empty_holds e (none sp) = refl
 empty_holds e (one {s = s} p sp) = absurd (some_words s (spells_none e sp))
 
-pub all_parts : {X : Type 0} (P : X → Type 0) (xs ys : List X) → All P (xs ++ ys) → All P xs × All P ys
+pub all_parts : {X : Type 0} (P : X → Type 0) (xs ys : List X) → AllByRecursion P (xs ++ ys) → AllByRecursion P xs × AllByRecursion P ys
 all_parts P [] ys h = (tt, h)
 all_parts P (x ∷ xs) ys h = let r = all_parts P xs ys h.1 in ((h.0, r.0), r.1)
 
 module _ (law : LineLaw) where
-  reads_last : (bs : List ℕ) (ss : List Said) → All (λ b. in_line b ≡ true) bs → Holds bs ss → All Fitting ss → (l : ℕ) → (sts : List Stmt) × Read l (lines_of bs) sts × (said sts ≡ ss)
+  reads_last : (bs : List ℕ) (ss : List Said) → AllByRecursion (λ b. in_line b ≡ true) bs → Holds bs ss → AllByRecursion Fitting ss → (l : ℕ) → (sts : List Stmt) × Read l (lines_of bs) sts × (said sts ≡ ss)
   reads_last [] ss h k f l = ([], nil, sym (empty_holds refl k))
   reads_last (b ∷ bs) ss h k f l =
       let r = law.reads l (b ∷ bs) ss f k in
       (r.0 ∷ [], subst (λ ls. Read l ls (r.0 ∷ [])) (sym (lines_one b bs h)) (cons r.1 nil), append-nil (said_of r.0) ∙ r.2)
 
-  pub text_read : {text : List ℕ} {ss : List Said} → Text text ss → All Fitting ss → (l : ℕ) → (sts : List Stmt) × Read l (lines_of text) sts × (said sts ≡ ss)
+  pub text_read : {text : List ℕ} {ss : List Said} → Text text ss → AllByRecursion Fitting ss → (l : ℕ) → (sts : List Stmt) × Read l (lines_of text) sts × (said sts ≡ ss)
   text_read (last {bs} {ss} h k) f l = reads_last bs ss h k f l
   text_read (line {bs} {rest} {ss} {more} h k t) f l =
       let g = all_parts Fitting ss more f in
@@ -141,15 +141,15 @@ module _ (law : LineLaw) where
       let b : said rs.0 ≡ more = rs.2 in
       (r.0 ∷ rs.0, subst (λ ls. Read l ls (r.0 ∷ rs.0)) (sym (lines_more bs rest h)) (cons r.1 rs.1), cc)
 
-  read_text : {text : List ℕ} {ls : List (List ℕ)} → Lines text ls → (l : ℕ) {sts : List Stmt} → Read l ls sts → Text text (said sts) × All Fitting (said sts)
+  read_text : {text : List ℕ} {ls : List (List ℕ)} → Lines text ls → (l : ℕ) {sts : List Stmt} → Read l ls sts → Text text (said sts) × AllByRecursion Fitting (said sts)
   read_text no_line l nil = (last tt (none nothing), tt)
   read_text (one_line {b} {bs} h) l (cons {st = st} e nil) =
       let k = law.holds l (b ∷ bs) st e in
-      subst (λ ss. Text (b ∷ bs) ss × All Fitting ss) (sym (append-nil (said_of st))) (last h k.0, k.1)
+      subst (λ ss. Text (b ∷ bs) ss × AllByRecursion Fitting ss) (sym (append-nil (said_of st))) (last h k.0, k.1)
   read_text (more {bs} h t) l (cons {st = st} {sts = sts} e r) =
       let k = law.holds l bs st e in
       let rs = read_text t (l + 1) r in
       (line h k.0 rs.0, All-append Fitting (said_of st) (said sts) k.1 rs.1)
 
-  pub lines_text : (l : ℕ) (text : List ℕ) {sts : List Stmt} → Read l (lines_of text) sts → Text text (said sts) × All Fitting (said sts)
+  pub lines_text : (l : ℕ) (text : List ℕ) {sts : List Stmt} → Read l (lines_of text) sts → Text text (said sts) × AllByRecursion Fitting (said sts)
   lines_text l text r = read_text (lines text) l r

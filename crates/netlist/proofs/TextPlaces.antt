@@ -1,6 +1,6 @@
 -- A refusal of something in a text has its place in the text.
 use Rattle.std.proofs.Common.{◌≡◌, ℕ, suc, ◌+◌, ◌-◌, ◌<◌, ◌≤◌, true, eqb, ltb, List, [], ◌∷◌, length, get_or, Err, refl, subst, arith}
-use Rattle.std.specs.List.{AllByRecursion as All}
+use Rattle.std.specs.List.{AllByRecursion}
 use Rattle.std.proofs.lemmas.Bool.{both_ways}
 use Rattle.circuit.specs.Names.{find}
 use Rattle.circuit.specs.Plans.{Plan, empty}
@@ -36,17 +36,17 @@ module _ (G : Place → Type 0) where
       either_unless (many_inputs p) (ManyInputs n.place) h (
       either_bind (undriven_place p n h) (λ _ _. taken tt))))
 
-  short_pins_place : (ns : List Named) → All (Stands G) ns → Either (Refused G) Any (short_pins ns)
+  short_pins_place : (ns : List Named) → AllByRecursion (Stands G) ns → Either (Refused G) Any (short_pins ns)
   short_pins_place [] h = taken tt
   short_pins_place (n ∷ ns) h = either_unless (long n) (LongName n.place) h.0 (short_pins_place ns h.1)
 
-  resolve_place : (names : List (List ℕ)) (ns : List Named) → All (Stands G) ns → Either (Refused G) Any (resolve names ns)
+  resolve_place : (names : List (List ℕ)) (ns : List Named) → AllByRecursion (Stands G) ns → Either (Refused G) Any (resolve names ns)
   resolve_place names [] h = taken tt
   resolve_place names (n ∷ ns) h =
       either_bind (either_ok_or (find names n.bytes) (UnknownPin n.place) h.0) (λ _ _.
       either_bind (resolve_place names ns h.1) (λ _ _. taken tt))
 
-  gate_place : (p : Plan) (n : Named) (k : Kind) (ns : List Named) → Stands G n → All (Stands G) ns → Either (Refused G) Any (drive_gate p n k ns)
+  gate_place : (p : Plan) (n : Named) (k : Kind) (ns : List Named) → Stands G n → AllByRecursion (Stands G) ns → Either (Refused G) Any (drive_gate p n k ns)
   gate_place p n k ns h hs =
       either_bind (short_place n h) (λ _ _.
       either_bind (room_place p n h) (λ _ _.

@@ -1,7 +1,7 @@
 -- The places of a line's tokens, and of what its statement is refused for.
 use Rattle.std.proofs.Common.{◌≡◌, ℕ, zero, suc, ◌+◌, ◌<◌, ◌≤◌, Bool, true, false, cond, not, eqb, List, [], ◌∷◌, length, Some, None, Ok, Err, Option, Result, refl, ap, ◌∙◌, subst, arith}
 use Rattle.std.specs.Option.{ok_or}
-use Rattle.std.specs.List.{AllByRecursion as All}
+use Rattle.std.specs.List.{AllByRecursion}
 use Rattle.std.proofs.lemmas.Bool.{both_ways, cond_both, eqb-true}
 use Rattle.circuit.specs.Gates.{fits}
 use Rattle.circuit.specs.Refusals.{place_of}
@@ -70,7 +70,7 @@ module _ (G : Place → Type 0) where
   Names blank = Unit {0}
   Names (input n) = Stands n
   Names (output n) = Stands n
-  Names (gate n k ns) = Stands n × All Stands ns
+  Names (gate n k ns) = Stands n × AllByRecursion Stands ns
 
   first_place : {ts : List Tok} → Fine ts → G (first ts).place
   first_place (fine g r) = g
@@ -133,7 +133,7 @@ module _ (G : Place → Type 0) where
   pins_place : (ts : List Tok) → Fine ts → Either Refused Any (pins ts)
   pins_place ts h = either_bind (want_name_place h) (λ _ _. plus_place 1 (more_pins_place (after ts) (after_fine h)))
 
-  labels_stand : (c : ℕ) (ts : List Tok) → Fine ts → All Stands (labels c ts)
+  labels_stand : (c : ℕ) (ts : List Tok) → Fine ts → AllByRecursion Stands (labels c ts)
   labels_stand zero ts h = tt
   labels_stand (suc c) ts h = (first_place h, labels_stand c (after (after ts)) (after_fine (after_fine h)))
 

@@ -1,6 +1,6 @@
 -- The notation as a relation: which bytes spell which statements, and which statements make which circuit.
 use Rattle.std.specs.Prelude.{◌≡◌, ℕ, ◌<◌, ◌≤◌, Bool, true, false, cond, List, [], ◌∷◌, ◌++◌, map, length, Some, Ok, codes, Result, ◌≢◌, slice_index_or}
-use Rattle.std.specs.List.{AllByRecursion as All}
+use Rattle.std.specs.List.{AllByRecursion}
 use Rattle.circuit.specs.Gates.{kind_word}
 use Rattle.circuit.specs.Names.{find}
 use Rattle.circuit.specs.Plans.{Plan, Sound}
@@ -32,7 +32,7 @@ words_of (gate n k ns) = name n ∷ equals ∷ name (kind_word k) ∷ open_sign 
 
 -- a name has one or more letters, digits and underscores
 abbrev pub Written : Word → Type 0
-Written (name bs) = (1 ≤ length bs) × All (λ b. name_byte b ≡ true) bs
+Written (name bs) = (1 ≤ length bs) × AllByRecursion (λ b. name_byte b ≡ true) bs
 Written open_sign = Unit {0}
 Written close_sign = Unit {0}
 Written comma = Unit {0}
@@ -74,8 +74,8 @@ pub data Holds : List ℕ → List Said → Type 0 where
 
 -- the statements of a text, line by line; the last line need not end
 pub data Text : List ℕ → List Said → Type 0 where
-  last : {bs : List ℕ} {ss : List Said} → All (λ b. in_line b ≡ true) bs → Holds bs ss → Text bs ss
-  line : {bs rest : List ℕ} {ss more : List Said} → All (λ b. in_line b ≡ true) bs → Holds bs ss → Text rest more → Text (bs ++ 10 ∷ rest) (ss ++ more)
+  last : {bs : List ℕ} {ss : List Said} → AllByRecursion (λ b. in_line b ≡ true) bs → Holds bs ss → Text bs ss
+  line : {bs rest : List ℕ} {ss more : List Said} → AllByRecursion (λ b. in_line b ≡ true) bs → Holds bs ss → Text rest more → Text (bs ++ 10 ∷ rest) (ss ++ more)
 
 abbrev pub name_at : Plan → ℕ → List ℕ
 name_at p i = slice_index_or p.names i []

@@ -1,5 +1,5 @@
 use Rattle.std.proofs.Common.{◌≡◌, ℕ, ◌<◌, List, [], ◌∷◌, length, Ok, vec_items, sym, ap, ◌∙◌, subst, arith, rules}
-use Rattle.std.specs.List.{AllByRecursion as All}
+use Rattle.std.specs.List.{AllByRecursion}
 use lib.ListN.{length-map}
 use Rattle.circuit.specs.declared.lines.Line.{Line}
 use Rattle.circuit.specs.declared.lines.Line.TheVariants.{Gate}
@@ -33,7 +33,7 @@ push_line-requires c =
     record {
       room = search rules;
       fresh = fresh_name (plan_of d) (named c.args.label) _ c.in_ok-name.ensures c.in_ok-want_undriven.ensures;
-      line = subst (Fits (vec_items d.lines)) (sym p.3) (fits_gate (vec_items d.lines) c.args.kind p.0 (ap (fits c.args.kind) p.2 ∙ c.requires) (subst (λ n. All (λ i. i < n) p.0) same (resolved (plan_of d).names (pin_labels b) p.0 p.1).0));
+      line = subst (Fits (vec_items d.lines)) (sym p.3) (fits_gate (vec_items d.lines) c.args.kind p.0 (ap (fits c.args.kind) p.2 ∙ c.requires) (subst (λ n. AllByRecursion (λ i. i < n) p.0) same (resolved (plan_of d).names (pin_labels b) p.0 p.1).0));
       inputs = (omega (arith, inputs_append (vec_items d.lines) (line_of b ∷ []), d.tallied), search rules);
     }
 
