@@ -1,5 +1,6 @@
 // safd: stuck-at fault dictionaries.
 #![tactic(auto)]
+
 mod commands;
 mod messages;
 
