@@ -1,6 +1,7 @@
 // Reads each netlist that it is given and prints what was read or why it was refused.
 // The output is held to what a second reader, written apart, says of the same files.
 #![tactic(auto)]
+
 use anyhow::anyhow;
 use circuit::{Circuit, Layer, Line, Place, Refusal};
 use netlist::read;
