@@ -1,8 +1,8 @@
 -- The bits of a word after the operations of a processor.
-use Rattle.std.proofs.Common.{◌≡◌, ℕ, zero, suc, ◌+◌, ◌-◌, ◌*◌, ◌/◌, ◌%◌, ◌^◌, ◌<◌, ◌≤◌, Bool, true, false, cond, not, ◌&&◌, ◌||◌, eqb, List, [], ◌∷◌, sym, refl, ap, ◌∙◌, subst, ap₂, ⊎_elim, mod-eq_of_lt, one-mul, arith, pow_pos, pow-add}
+use Rattle.std.proofs.Common.{◌≡◌, ℕ, zero, suc, ◌+◌, ◌-◌, ◌/◌, ◌%◌, ◌^◌, ◌<◌, Bool, true, false, cond, not, ◌&&◌, ◌||◌, eqb, List, [], ◌∷◌, sym, refl, ap, ◌∙◌, subst, ⊎_elim, mod-eq_of_lt, one-mul, arith, pow_pos, pow-add}
 use lib.Bits.{bit_and, bit_or, bit_xor, and_shr, or_shr, xor_shr, and_mod, or_mod, xor_mod, xor_add_and, and_mask, xor_comm, and_lt, or_lt, xor_lt}
 use lib.Pow.{ones_split, high, ones_lt}
-use Rattle.std.proofs.lemmas.Nat.{mod_below, div_below, shl-shr, one_shl, pow_below}
+use Rattle.std.proofs.lemmas.Nat.{mod_below, div_below, shl-shr, pow_below}
 use Rattle.std.proofs.lemmas.Bool.{cases_order, eq-eqb, ne_eqb}
 use Rattle.circuit.specs.Gates.{differs, all, any, odd, gate_on}
 use Rattle.circuit.specs.Machines.{bit_of}

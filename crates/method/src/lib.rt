@@ -1,5 +1,6 @@
 // Methods of simulation: a line's value in many machines at once.
 #![tactic(auto)]
+
 mod deductive;
 mod lanes;
 mod parallel;

@@ -1,4 +1,4 @@
-use Rattle.std.proofs.Common.{◌≡◌, ◌/◌, ◌%◌, ◌^◌, ◌<◌, ◌≤◌, eqb, sym, ap, ◌∙◌, ⊎_elim, arith, pow_pos}
+use Rattle.std.proofs.Common.{◌≡◌, ◌/◌, ◌%◌, ◌^◌, ◌<◌, ◌≤◌, eqb, sym, ap, ⊎_elim, arith, pow_pos}
 use lib.Bits.{and_mask}
 use Rattle.std.proofs.lemmas.Nat.{div_below, pow_below}
 use Rattle.std.proofs.lemmas.Bool.{cases_lt}
