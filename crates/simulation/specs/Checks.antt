@@ -3,8 +3,8 @@ use Rattle.std.specs.Prelude.{ℕ, zero, suc, ◌-◌, cond, length, Some, None,
 use Rattle.circuit.specs.Machines.{bit_of}
 use Rattle.circuit.specs.Plans.{Plan}
 use Rattle.circuit.specs.Shape.{inputs_in}
-use Rattle.circuit.specs.declared.refusals.Refusal.{Refusal}
-use Rattle.circuit.specs.declared.refusals.Refusal.TheVariants.{Stray, Short}
+use Rattle.simulation.specs.declared.refusals.Unfit.{Unfit}
+use Rattle.simulation.specs.declared.refusals.Unfit.TheVariants.{Stray, Short}
 
 -- the lowest of the m bits from j on that is 1
 abbrev pub lowest : ℕ → ℕ → ℕ → Option ℕ
@@ -15,12 +15,12 @@ lowest (suc m) j v = cond (bit_of v j) (Some j) (lowest m (suc j) v)
 abbrev pub stray : ℕ → ℕ → Option ℕ
 stray n v = lowest (64 - n) n v
 
-abbrev pub unless_stray : Option ℕ → Result Unit Refusal → Result Unit Refusal
+abbrev pub unless_stray : Option ℕ → Result Unit Unfit → Result Unit Unfit
 unless_stray None r = r
 unless_stray (Some j) r = Err (Stray j)
 
 -- a bit past the inputs, then the working table, then the row
-abbrev pub checks : Plan → ℕ → ℕ → ℕ → ℕ → Result Unit Refusal
+abbrev pub checks : Plan → ℕ → ℕ → ℕ → ℕ → Result Unit Unfit
 checks p faults v work row =
     unless_stray (stray (inputs_in p.lines) v)
     (cond (nat_lt work (length p.lines)) (Err (Short (length p.lines)))
@@ -28,16 +28,16 @@ checks p faults v work row =
     (Ok tt)))
 
 -- a refusal, or else the answer
-abbrev pub answered : {A : Type 0} → Result Unit Refusal → A → Result A Refusal
+abbrev pub answered : {A : Type 0} → Result Unit Unfit → A → Result A Unfit
 answered (Ok u) a = Ok a
 answered (Err e) a = Err e
 
 -- a table after the call: a refusal leaves it
-abbrev pub after : {A : Type 0} → Result Unit Refusal → A → A → A
+abbrev pub after : {A : Type 0} → Result Unit Unfit → A → A → A
 after (Ok u) new old = new
 after (Err e) new old = old
 
 -- one fact where the call is granted, another where it is refused
-abbrev pub Granted : {A : Type 0} → Result A Refusal → Type 0 → Type 0 → Type 0
+abbrev pub Granted : {A : Type 0} → Result A Unfit → Type 0 → Type 0 → Type 0
 Granted (Ok a) P Q = P
 Granted (Err e) P Q = Q

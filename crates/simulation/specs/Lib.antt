@@ -1,5 +1,6 @@
 pub mod Lanes
 pub mod Members
 pub mod Rows
+pub mod Refusals
 pub mod Checks
 pub mod Laws

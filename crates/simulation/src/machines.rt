@@ -7,8 +7,9 @@ ghost use Rattle.simulation.specs.Lanes.{Shows};
 ghost use Rattle.simulation.specs.Rows.{only, last_batch};
 
 use crate::listing::Listed;
+use crate::refusals::Unfit;
 use crate::rows::simulate;
-use circuit::{Circuit, Fault, Refusal};
+use circuit::{Circuit, Fault};
 use method::Method;
 
 // The output word of the circuit with one fault or none. The working table is left as by `simulate` with that fault alone.
@@ -17,7 +18,7 @@ pub fn machine_word<M: Method>(
     machine: Option<Fault>,
     vector: u64,
     work: &mut [M],
-) -> Result<u64, Refusal>
+) -> Result<u64, Unfit>
     ensures value { result ≡ answered (checks (plan circuit.now) 0 vector (length work.old) 0) (word (plan circuit.now) machine vector) }
     ensures shows { Granted result (Shows M.Method.lane M.Method.count (last_batch M.Method.count (only machine)) vector (plan circuit.now).lines work.new) (work.new ≡ work.old) }
     ensures beyond { drop (length (plan circuit.now).lines) work.new ≡ drop (length (plan circuit.now).lines) work.old }
@@ -34,7 +35,7 @@ fn faulty_word<M: Method>(
     fault: Fault,
     vector: u64,
     work: &mut [M],
-) -> Result<u64, Refusal>
+) -> Result<u64, Unfit>
     ensures value { result ≡ answered (checks (plan circuit.now) 0 vector (length work.old) 0) (word (plan circuit.now) (Some fault) vector) }
     ensures shows { Granted result (Shows M.Method.lane M.Method.count (last_batch M.Method.count (only (Some fault))) vector (plan circuit.now).lines work.new) (work.new ≡ work.old) }
     ensures beyond { drop (length (plan circuit.now).lines) work.new ≡ drop (length (plan circuit.now).lines) work.old }

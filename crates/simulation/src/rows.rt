@@ -10,7 +10,8 @@ ghost use Rattle.simulation.specs.Checks.{stray, checks, answered, after, Grante
 
 use crate::filing::{batch_len, run_batch};
 use crate::listing::Listed;
-use circuit::{Circuit, Line, Refusal};
+use crate::refusals::Unfit;
+use circuit::{Circuit, Line};
 use method::{Method, bit};
 
 // Simulates the undropped faults, batch by batch, writes the row's entries and answers the fault-free word.
@@ -73,18 +74,18 @@ fn check(
     vector: u64,
     work: usize,
     row: usize,
-) -> Result<(), Refusal>
+) -> Result<(), Unfit>
     ensures value { result ≡ checks (plan circuit.now) faults vector work row }
     ensures law { Lawful (plan circuit.now) vector }
 {
     if let Some(bit) = stray(circuit, vector) {
-        return Err(Refusal::Stray(bit));
+        return Err(Unfit::Stray(bit));
     }
     if work < circuit.lines() {
-        return Err(Refusal::Short(circuit.lines()));
+        return Err(Unfit::Short(circuit.lines()));
     }
     if row < faults {
-        return Err(Refusal::Short(faults));
+        return Err(Unfit::Short(faults));
     }
     Ok(())
 }
@@ -98,7 +99,7 @@ pub fn simulate<M: Method>(
     vector: u64,
     work: &mut [M],
     row: &mut [u64],
-) -> Result<u64, Refusal>
+) -> Result<u64, Unfit>
     ensures value { result ≡ answered (checks (plan circuit.now) (length listed.now) vector (length work.old) (length row.old)) (word (plan circuit.now) None vector) }
     ensures entries { row.new ≡ after (checks (plan circuit.now) (length listed.now) vector (length work.old) (length row.old)) (map (entry (plan circuit.now) vector) listed.now ++ drop (length listed.now) row.old) row.old }
     ensures shows { Granted result (Shows M.Method.lane M.Method.count (last_batch M.Method.count (live listed.now)) vector (plan circuit.now).lines work.new) (work.new ≡ work.old) }

@@ -5,14 +5,14 @@ use Rattle.simulation.specs.Rows.{live}
 use Rattle.simulation.proofs.Fronts.{live_dropped, live_taken, live_room}
 use Rattle.simulation.proofs.Holding.{roomy}
 use Rattle.simulation.proofs.filing.gather.Goals as goal
-use Rattle.simulation.proofs.filing.gather.Goals.{then-is-live, else-is-live}
+use Rattle.simulation.proofs.filing.gather.Goals.{then-is_live, else-is_live}
 
 pub add-requires : goal.add-requires
 add-requires c =
     let b = c.loop-one.batch in
     let xs = c.args.listed.now in
     let i = c.loop-one.one_Index in
-    omega (arith, live_room xs i _ c.loop-one-test.true (members b) 64 (sym c.if-is-live.ensures) c.loop-one.invariant c.requires, length-take-le b.count b.faults (roomy b))
+    omega (arith, live_room xs i _ c.loop-one-test.true (members b) 64 (sym c.if-is_live.ensures) c.loop-one.invariant c.requires, length-take-le b.count b.faults (roomy b))
 
 pub loop-one-preserved : goal.loop-one-preserved
 loop-one-preserved c =
@@ -20,12 +20,12 @@ loop-one-preserved c =
     let xs = c.args.listed.now in
     let i = c.loop-one.one_Index in
     let lt = c.loop-one-test.true in
-    elim c.if-is-live.branch [
-      | then-is-live w ↦
+    elim c.if-is_live.branch [
+      | then-is_live w ↦
           ap (λ x. members x ++ live (drop (i + 1) xs)) w.batch-is ∙ ap (λ fs. fs ++ live (drop (i + 1) xs)) w.add.ensures
-          ∙ append_assoc (members b) (_ ∷ []) (live (drop (i + 1) xs)) ∙ ap (λ fs. members b ++ fs) (sym (live_taken xs i _ lt (sym w.if-is-live.ensures))) ∙ c.loop-one.invariant
-      | else-is-live w ↦
-          ap (λ x. members x ++ live (drop (i + 1) xs)) w.batch-is ∙ ap (λ fs. members b ++ fs) (sym (live_dropped xs i _ lt (sym w.if-is-live.ensures))) ∙ c.loop-one.invariant
+          ∙ append_assoc (members b) (_ ∷ []) (live (drop (i + 1) xs)) ∙ ap (λ fs. members b ++ fs) (sym (live_taken xs i _ lt (sym w.if-is_live.ensures))) ∙ c.loop-one.invariant
+      | else-is_live w ↦
+          ap (λ x. members x ++ live (drop (i + 1) xs)) w.batch-is ∙ ap (λ fs. members b ++ fs) (sym (live_dropped xs i _ lt (sym w.if-is_live.ensures))) ∙ c.loop-one.invariant
     ]
 
 pub returns : goal.returns

@@ -12,8 +12,8 @@ returns g c =
     let p = plan c.args.circuit.now in
     let v = c.args.vector in
     let f = c.args.fault in
-    let told = c.in-ok-good.ensures in
-    let open' = granted (checks p 1 v (length c.args.work.now) 1) c.in-ok-good.good (word p None v) told.value in
+    let told = c.in_ok-good.ensures in
+    let open' = granted (checks p 1 v (length c.args.work.now) 1) c.in_ok-good.good (word p None v) told.value in
     let filed : c.simulate.new.row ≡ fail_word p f v ∷ [] = told.entries ∙ ap (λ r. after r (fail_word p f v ∷ []) (0 ∷ [])) open'.0 in
     record {
       value =

@@ -23,7 +23,7 @@ returns-in-Some g c =
     let p = plan c.args.circuit.now in
     let v = c.args.vector in
     record {
-      value = c.faulty-word.ensures.value ∙ ap (λ x. answered (checks p 0 v (length c.args.work.now) 0) (word p x v)) (sym c.in-Some.is);
-      shows = subst (λ x. Granted c.faulty-word.result (Shows m.lane m.count (last_batch m.count (only x)) v p.lines c.faulty-word.new.work) (c.faulty-word.new.work ≡ c.args.work.now)) (sym c.in-Some.is) c.faulty-word.ensures.shows;
-      beyond = c.faulty-word.ensures.beyond;
+      value = c.faulty_word.ensures.value ∙ ap (λ x. answered (checks p 0 v (length c.args.work.now) 0) (word p x v)) (sym c.in-Some.is);
+      shows = subst (λ x. Granted c.faulty_word.result (Shows m.lane m.count (last_batch m.count (only x)) v p.lines c.faulty_word.new.work) (c.faulty_word.new.work ≡ c.args.work.now)) (sym c.in-Some.is) c.faulty_word.ensures.shows;
+      beyond = c.faulty_word.ensures.beyond;
     }

@@ -8,24 +8,24 @@ use Rattle.simulation.proofs.rows.run.Goals as goal
 pub loop-vector-init : goal.loop-vector-init
 loop-vector-init g c = (begins_first g.M.Method.count c.args.listed.now g.met.M.Method.least, refl, refl, refl)
 
-pub overflow-add-end : goal.overflow-add-end
-overflow-add-end g c =
-    let long = front_here g.M.Method.count _ c.args.listed.now c.loop-vector.start _ c.lanes.ensures c.batch-len.ensures in
+pub overflow_add-end : goal.overflow_add-end
+overflow_add-end g c =
+    let long = front_here g.M.Method.count _ c.args.listed.now c.loop-vector.start _ c.lanes.ensures c.batch_len.ensures in
     let within = part_within g.M.Method.count c.args.listed.now c.loop-vector.start _ g.met.M.Method.least c.loop-vector.invariant.0 long in
     omega (arith, within, c.requires.room)
 
-pub slice-bounds-run-batch-end : goal.slice-bounds-run-batch-end
-slice-bounds-run-batch-end g c =
-    let long = front_here g.M.Method.count _ c.args.listed.now c.loop-vector.start _ c.lanes.ensures c.batch-len.ensures in
+pub slice_bounds-run_batch-end : goal.slice_bounds-run_batch-end
+slice_bounds-run_batch-end g c =
+    let long = front_here g.M.Method.count _ c.args.listed.now c.loop-vector.start _ c.lanes.ensures c.batch_len.ensures in
     part_within g.M.Method.count c.args.listed.now c.loop-vector.start _ g.met.M.Method.least c.loop-vector.invariant.0 long
 
-pub run-batch-good-requires : goal.run-batch-good-requires
-run-batch-good-requires g c =
+pub run_batch-good-requires : goal.run_batch-good-requires
+run_batch-good-requires g c =
     let k = g.M.Method.count in
     let xs = c.args.listed.now in
     let s = c.loop-vector.start in
-    let r = c.batch-len.result in
-    let long = front_here k _ xs s r c.lanes.ensures c.batch-len.ensures in
+    let r = c.batch_len.result in
+    let long = front_here k _ xs s r c.lanes.ensures c.batch_len.ensures in
     let within = part_within k xs s r g.met.M.Method.least c.loop-vector.invariant.0 long in
     record {
       low = c.requires.low;
@@ -44,19 +44,19 @@ returns-then-end-listed g c =
     let k = m.count in
     let xs = c.args.listed.now in
     let s = c.loop-vector.start in
-    let r = c.batch-len.result in
+    let r = c.batch_len.result in
     let b = c.loop-vector.invariant.0 in
     let pos = g.met.M.Method.least in
-    let long = front_here k _ xs s r c.lanes.ensures c.batch-len.ensures in
+    let long = front_here k _ xs s r c.lanes.ensures c.batch_len.ensures in
     let within = part_within k xs s r pos b long in
     let F = entry (nameless c.args.lines.now c.args.outputs.now) c.args.vector in
-    let new = c.run-batch-good.ensures in
+    let new = c.run_batch-good.ensures in
     record {
       good = new.good;
-      entries = filled_all F xs s r within c.loop-vector.row c.run-batch-good.new.row c.args.row.now c.if-end-listed.true
-          (filled_more F xs s r within c.loop-vector.row c.run-batch-good.new.row c.args.row.now c.loop-vector.invariant.1 new.entries)
-          (rest_more F xs s r within c.loop-vector.row c.run-batch-good.new.row c.args.row.now c.loop-vector.invariant.2 new.rest);
-      shows = subst (λ fs. Shows m.lane m.count fs c.args.vector c.args.lines.now c.run-batch-good.new.work) (ap live (part_is xs s r) ∙ last_here k xs s r pos b long c.if-end-listed.true) new.shows;
+      entries = filled_all F xs s r within c.loop-vector.row c.run_batch-good.new.row c.args.row.now c.if-end-listed.true
+          (filled_more F xs s r within c.loop-vector.row c.run_batch-good.new.row c.args.row.now c.loop-vector.invariant.1 new.entries)
+          (rest_more F xs s r within c.loop-vector.row c.run_batch-good.new.row c.args.row.now c.loop-vector.invariant.2 new.rest);
+      shows = subst (λ fs. Shows m.lane m.count fs c.args.vector c.args.lines.now c.run_batch-good.new.work) (ap live (part_is xs s r) ∙ last_here k xs s r pos b long c.if-end-listed.true) new.shows;
       beyond = new.beyond ∙ c.loop-vector.invariant.3;
     }
 
@@ -65,12 +65,12 @@ loop-vector-smaller g c =
     let k = g.M.Method.count in
     let xs = c.args.listed.now in
     let s = c.loop-vector.start in
-    let r = c.batch-len.result in
+    let r = c.batch_len.result in
     let b = c.loop-vector.invariant.0 in
     let pos = g.met.M.Method.least in
-    let long = front_here k _ xs s r c.lanes.ensures c.batch-len.ensures in
+    let long = front_here k _ xs s r c.lanes.ensures c.batch_len.ensures in
     let within = part_within k xs s r pos b long in
-    let left : c.loop-vector.start + c.batch-len.result < length c.args.listed.now = omega (arith, within, c.if-end-listed.false) in
+    let left : c.loop-vector.start + c.batch_len.result < length c.args.listed.now = omega (arith, within, c.if-end-listed.false) in
     omega (arith, (begins_next k xs s r pos b long left).0, left)
 
 pub loop-vector-preserved : goal.loop-vector-preserved
@@ -78,16 +78,16 @@ loop-vector-preserved g c =
     let k = g.M.Method.count in
     let xs = c.args.listed.now in
     let s = c.loop-vector.start in
-    let r = c.batch-len.result in
+    let r = c.batch_len.result in
     let b = c.loop-vector.invariant.0 in
     let pos = g.met.M.Method.least in
-    let long = front_here k _ xs s r c.lanes.ensures c.batch-len.ensures in
+    let long = front_here k _ xs s r c.lanes.ensures c.batch_len.ensures in
     let within = part_within k xs s r pos b long in
-    let left : c.loop-vector.start + c.batch-len.result < length c.args.listed.now = omega (arith, within, c.if-end-listed.false) in
+    let left : c.loop-vector.start + c.batch_len.result < length c.args.listed.now = omega (arith, within, c.if-end-listed.false) in
     let F = entry (nameless c.args.lines.now c.args.outputs.now) c.args.vector in
-    let new = c.run-batch-good.ensures in (
+    let new = c.run_batch-good.ensures in (
       (begins_next k xs s r pos b long left).1,
-      filled_more F xs s r within c.loop-vector.row c.run-batch-good.new.row c.args.row.now c.loop-vector.invariant.1 new.entries,
-      rest_more F xs s r within c.loop-vector.row c.run-batch-good.new.row c.args.row.now c.loop-vector.invariant.2 new.rest,
+      filled_more F xs s r within c.loop-vector.row c.run_batch-good.new.row c.args.row.now c.loop-vector.invariant.1 new.entries,
+      rest_more F xs s r within c.loop-vector.row c.run_batch-good.new.row c.args.row.now c.loop-vector.invariant.2 new.rest,
       new.beyond ∙ c.loop-vector.invariant.3,
     )

@@ -11,5 +11,5 @@ returns g c l le =
     let i = length c.args.before.now in
     let long : length c.args.gate.pins ≡ 4 = omega arith in
     c.gate.ensures l le
-    ∙ (λ t. gate_on c.args.gate.kind (c.free-pin-a.ensures l le t ∷ c.free-pin-b.ensures l le t ∷ c.free-pin-c.ensures l le t ∷ c.free-pin-d.ensures l le t ∷ []))
+    ∙ (λ t. gate_on c.args.gate.kind (c.free_pin-a.ensures l le t ∷ c.free_pin-b.ensures l le t ∷ c.free_pin-c.ensures l le t ∷ c.free_pin-d.ensures l le t ∷ []))
     ∙ four_pins (effect None) value i c.args.gate long c.requires.counted.0 c.requires.counted.1

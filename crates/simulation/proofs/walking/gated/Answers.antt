@@ -25,5 +25,5 @@ returns-then-first-eq0 g c l le =
     let value = value_at binary (seen g.M.Method.lane c.args.before.now l) in
     let i = length c.args.before.now in
     let none = sym c.requires.first ∙ c.if-first-eq0.true in
-    c.free-gate.ensures l le
+    c.free_gate.ensures l le
     ∙ ap (gate_on c.args.gate.kind) (pins_free (effect None) value i (effect (machine_at (members b) l)) (λ p. free_site b.faults b.count (roomy b) (Pin i p) none l) 0 (take c.args.gate.count c.args.gate.pins))

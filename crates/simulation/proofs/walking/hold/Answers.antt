@@ -7,7 +7,7 @@ use Rattle.simulation.proofs.Chains.{latest_le}
 use Rattle.simulation.proofs.Holding.{Passed, roomy, passed_none, passed_one, passed_all}
 use Rattle.simulation.proofs.walking.hold.Given as given
 use Rattle.simulation.proofs.walking.hold.Goals as goal
-use Rattle.simulation.proofs.walking.hold.Goals.{then-same-site, else-same-site}
+use Rattle.simulation.proofs.walking.hold.Goals.{then-same_site, else-same_site}
 
 pub loop-lane-init : goal.loop-lane-init
 loop-lane-init g c =
@@ -17,7 +17,7 @@ loop-lane-init g c =
     (none.within, none)
 
 -- the next lane of the chain
-next : (g : given.Over) (c : goal.After-lane·1 g) → get_or c.args.batch.now.links c.loop-lane.lane 0 ≡ latest c.args.batch.now.faults (line_of c.args.site) (c.loop-lane.lane - 1)
+next : (g : given.Over) (c : goal.After-lane-1 g) → get_or c.args.batch.now.links c.loop-lane.lane 0 ≡ latest c.args.batch.now.faults (line_of c.args.site) (c.loop-lane.lane - 1)
 next g c =
     let b = c.args.batch.now in
     let k = c.loop-lane.lane in
@@ -35,14 +35,14 @@ loop-lane-preserved g c =
     let b = c.args.batch.now in
     let k = c.loop-lane.lane in
     let pos : 0 < c.loop-lane.lane = omega (arith, c.loop-lane-test.true) in
-    elim c.if-same-site.branch [
-      | then-same-site w ↦
-          let one = passed_one b.faults b.count (roomy b) c.args.site m.count (m.lane c.args.start) (m.lane c.loop-lane.value) (m.lane c.if-same-site.value) k _ true pos (sym w.if-same-site.ensures)
+    elim c.if-same_site.branch [
+      | then-same_site w ↦
+          let one = passed_one b.faults b.count (roomy b) c.args.site m.count (m.lane c.args.start) (m.lane c.loop-lane.value) (m.lane c.if-same_site.value) k _ true pos (sym w.if-same_site.ensures)
           (λ j h. ap (λ v. m.lane v j) w.value-is ∙ w.stick-value.ensures j h ∙ ap (λ x. cond (eqb j k && x) (get_or b.faults (k - 1) no_fault).stuck (m.lane c.loop-lane.value j)) (le-leb 1 k (omega arith)))
           (next g c) c.loop-lane.invariant.1 in
           (one.within, one)
-      | else-same-site w ↦
-          let one = passed_one b.faults b.count (roomy b) c.args.site m.count (m.lane c.args.start) (m.lane c.loop-lane.value) (m.lane c.if-same-site.value) k _ false pos (sym w.if-same-site.ensures)
+      | else-same_site w ↦
+          let one = passed_one b.faults b.count (roomy b) c.args.site m.count (m.lane c.args.start) (m.lane c.loop-lane.value) (m.lane c.if-same_site.value) k _ false pos (sym w.if-same_site.ensures)
           (λ j h. ap (λ v. m.lane v j) w.value-is ∙ sym (off (eqb j k) (get_or b.faults (k - 1) no_fault).stuck (m.lane c.loop-lane.value j)))
           (next g c) c.loop-lane.invariant.1 in
           (one.within, one)

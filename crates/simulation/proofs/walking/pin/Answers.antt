@@ -13,7 +13,7 @@ returns-then-p-gate g c l le =
     let f = forced (forces (machine_at (members c.args.batch.now) l) (Pin (length c.args.before.now) c.args.p)) in
     let value = value_at binary (seen m.lane c.args.before.now l) (get_or c.args.gate.pins c.args.p 0) in
     let here = lt-ltb c.args.p c.args.gate.count c.if-p-gate.true in
-    c.hold.ensures l le ∙ ap f (c.free-pin-value.ensures l le ∙ ap (λ b. cond b value (filler c.args.gate.kind)) here)
+    c.hold.ensures l le ∙ ap f (c.free_pin-value.ensures l le ∙ ap (λ b. cond b value (filler c.args.gate.kind)) here)
     ∙ sym (ap (λ b. cond b (f value) (filler c.args.gate.kind)) here)
 
 pub returns-else-p-gate : goal.returns-else-p-gate
@@ -22,4 +22,4 @@ returns-else-p-gate g c l le =
     let f = forced (forces (machine_at (members c.args.batch.now) l) (Pin (length c.args.before.now) c.args.p)) in
     let value = value_at binary (seen m.lane c.args.before.now l) (get_or c.args.gate.pins c.args.p 0) in
     let off = le-ltb c.args.p c.args.gate.count c.if-p-gate.false in
-    c.free-pin-value.ensures l le ∙ ap (λ b. cond b value (filler c.args.gate.kind)) off ∙ sym (ap (λ b. cond b (f value) (filler c.args.gate.kind)) off)
+    c.free_pin-value.ensures l le ∙ ap (λ b. cond b value (filler c.args.gate.kind)) off ∙ sym (ap (λ b. cond b (f value) (filler c.args.gate.kind)) off)

@@ -3,19 +3,19 @@ use Rattle.std.proofs.lemmas.List.{take_more_set, length-set}
 use Rattle.circuit.specs.Plans.{line_of}
 use Rattle.simulation.proofs.Chains.{tops_in, tops_out, nexts_in, nexts_out}
 use Rattle.simulation.proofs.batches.Batch.add.Goals as goal
-use Rattle.simulation.proofs.batches.Batch.add.Goals.{then-line-lt-MAX-LINES, else-line-lt-MAX-LINES}
+use Rattle.simulation.proofs.batches.Batch.add.Goals.{then-line-lt-MAX_LINES, else-line-lt-MAX_LINES}
 
-pub invariant-of-self : goal.invariant-of-self
-invariant-of-self c =
+pub invariant_of-self : goal.invariant_of-self
+invariant_of-self c =
     let b = c.args.self.now in
     let fs = c.args.self.now.faults in
     let n = c.args.self.now.count in
     let f = c.args.fault in
     let e = c.line-line.ensures in
     let room : c.args.self.now.count < length c.args.self.now.faults = omega arith in
-    elim c.if-line-lt-MAX-LINES.branch [
-      | then-line-lt-MAX-LINES w ↦
-          let low : line_of c.args.fault.site < 1024 = omega (arith, w.if-line-lt-MAX-LINES.true) in
+    elim c.if-line-lt-MAX_LINES.branch [
+      | then-line-lt-MAX_LINES w ↦
+          let low : line_of c.args.fault.site < 1024 = omega (arith, w.if-line-lt-MAX_LINES.true) in
           let head : line_of c.args.fault.site < length c.args.self.now.heads = omega arith in
           let link : c.args.self.now.count + 1 < length c.args.self.now.links = omega arith in (
             omega arith,
@@ -31,8 +31,8 @@ invariant-of-self c =
               ),
             ),
           )
-      | else-line-lt-MAX-LINES w ↦
-          let off : 1024 ≤ line_of c.args.fault.site = omega (arith, w.if-line-lt-MAX-LINES.false) in (
+      | else-line-lt-MAX_LINES w ↦
+          let off : 1024 ≤ line_of c.args.fault.site = omega (arith, w.if-line-lt-MAX_LINES.false) in (
             omega arith,
             (
               omega (arith, length-set fs n f),

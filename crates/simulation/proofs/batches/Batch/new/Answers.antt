@@ -3,5 +3,5 @@ use Rattle.std.proofs.lemmas.List.{get_or-replicate, length-replicate}
 use Rattle.simulation.specs.Lanes.{no_fault}
 use Rattle.simulation.proofs.batches.Batch.new.Goals as goal
 
-pub invariant-of-result : goal.invariant-of-result
-invariant-of-result c = (omega arith, (length-replicate 64 no_fault, ((λ g lt. get_or-replicate _ g 0 0 lt), ((λ i lt. absurd (omega arith)), tt))))
+pub invariant_of-result : goal.invariant_of-result
+invariant_of-result c = (omega arith, (length-replicate 64 no_fault, ((λ g lt. get_or-replicate _ g 0 0 lt), ((λ i lt. absurd (omega arith)), tt))))
