@@ -1,10 +1,10 @@
 -- Effects that agree at a circuit's own sites, and a fault at a site that it lacks.
-use Rattle.std.proofs.Common.{◌≡◌, ℕ, zero, suc, ◌+◌, ◌<◌, ◌≤◌, Bool, true, false, cond, ◌&&◌, eqb, List, [], ◌∷◌, ◌++◌, length, get_or, take, Some, None, sym, refl, ap, ◌∙◌, ap₂, ⊎_elim, zero-add, arith}
+use Rattle.std.proofs.Common.{◌≡◌, ℕ, suc, ◌+◌, ◌<◌, Bool, true, false, cond, ◌&&◌, eqb, List, [], ◌∷◌, ◌++◌, length, get_or, take, Some, None, sym, refl, ap, ◌∙◌, ap₂, ⊎_elim, zero-add, arith}
 use Rattle.std.specs.List.{slice_get}
 use Rattle.std.proofs.lemmas.List.{length_push, length-take}
 use Rattle.std.proofs.lemmas.Option.{slice_get-get_or}
 use Rattle.std.proofs.lemmas.Bool.{cases_eq, ne_eqb, ltb-false}
-use Rattle.circuit.specs.Machines.{Logic, Effect, forced, pins_seen, stem_value, value_at, values_from, values, same_site, effect, binary, bit_of, word, word_of}
+use Rattle.circuit.specs.Machines.{Logic, Effect, forced, pins_seen, stem_value, value_at, values_from, same_site, effect, binary, bit_of, word, word_of}
 use Rattle.circuit.specs.Plans.{Plan, pins_at, has_site}
 use Rattle.circuit.specs.Shape.{blank, pin_count}
 use Rattle.circuit.specs.declared.faults.Site.{Site}

@@ -1,9 +1,9 @@
 -- The entries of a batch, by its lanes and by its machines.
-use Rattle.std.proofs.Common.{◌≡◌, ℕ, zero, suc, ◌+◌, ◌<◌, ◌≤◌, Bool, true, false, cond, List, [], ◌∷◌, ◌++◌, map, length, get_or, take, drop, Some, None, sym, refl, ap, ◌∙◌, subst, ap₂, ⊎_elim, arith}
+use Rattle.std.proofs.Common.{◌≡◌, ℕ, suc, ◌+◌, ◌<◌, ◌≤◌, true, false, cond, List, [], ◌∷◌, ◌++◌, map, length, get_or, drop, Some, None, sym, refl, ap, ◌∙◌, subst, ap₂, ⊎_elim, arith}
 use lib.Bits.{bit_xor}
-use Rattle.std.proofs.lemmas.List.{append-nil, append_assoc, length-append, length_push, get_or_at, at_drop_more}
+use Rattle.std.proofs.lemmas.List.{append_assoc, length-append, length_push, get_or_at, at_drop_more}
 use Rattle.std.proofs.lemmas.Bool.{cases_Bool}
-use Rattle.circuit.specs.Machines.{Machine, word, fail_word}
+use Rattle.circuit.specs.Machines.{word}
 use Rattle.circuit.specs.Plans.{Plan}
 use Rattle.circuit.specs.declared.faults.Fault.{Fault}
 use Rattle.simulation.specs.declared.listing.Listed.{Listed}

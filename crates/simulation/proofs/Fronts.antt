@@ -1,11 +1,10 @@
 -- Which of the listed faults one batch takes.
-use Rattle.std.proofs.Common.{◌≡◌, ℕ, zero, suc, ◌+◌, ◌-◌, ◌*◌, ◌/◌, ◌%◌, ◌<◌, ◌≤◌, Bool, true, false, cond, eqb, List, [], ◌∷◌, ◌++◌, length, get_or, take, drop, sym, refl, ap, ◌∙◌, subst, ⊎_elim, arith}
-use Rattle.std.proofs.lemmas.List.{at_drop_more, take-append-drop, length-append, drop_at}
-use Rattle.std.proofs.lemmas.Nat.{div-add-mod', div_below, div-mul-add}
-use Rattle.std.proofs.lemmas.Bool.{cases_lt, cases_eq, cases_Bool, eq-eqb, ne_eqb}
+use Rattle.std.proofs.Common.{◌≡◌, ℕ, suc, ◌+◌, ◌-◌, ◌<◌, ◌≤◌, Bool, true, false, cond, eqb, List, [], ◌∷◌, ◌++◌, length, get_or, take, drop, sym, refl, ap, ◌∙◌, subst, ⊎_elim, arith}
+use Rattle.std.proofs.lemmas.List.{at_drop_more, length-append}
+use Rattle.std.proofs.lemmas.Bool.{cases_eq, cases_Bool, eq-eqb, ne_eqb}
 use Rattle.circuit.specs.declared.faults.Fault.{Fault}
 use Rattle.simulation.specs.declared.listing.Listed.{Listed}
-use Rattle.simulation.specs.Rows.{live, last_batch, front}
+use Rattle.simulation.specs.Rows.{live, front}
 
 pub live_append : (xs ys : List Listed) → live (xs ++ ys) ≡ live xs ++ live ys
 live_append [] ys = refl

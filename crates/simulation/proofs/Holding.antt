@@ -1,8 +1,8 @@
 -- Along a line's chain: each lane that was passed holds what its machine forces.
-use Rattle.std.proofs.Common.{◌≡◌, ℕ, zero, suc, ◌+◌, ◌-◌, ◌<◌, ◌≤◌, Bool, true, false, cond, ◌&&◌, eqb, ◌≢◌, List, [], ◌∷◌, map, length, get_or, take, Some, None, sym, refl, ap, ◌∙◌, subst, ⊎_elim, arith}
+use Rattle.std.proofs.Common.{◌≡◌, ℕ, zero, suc, ◌-◌, ◌<◌, ◌≤◌, Bool, true, false, cond, ◌&&◌, eqb, ◌≢◌, List, map, length, get_or, take, Some, None, sym, refl, ap, ◌∙◌, subst, ⊎_elim, arith}
 use Rattle.std.proofs.lemmas.List.{get_or-map, get_or_past, get_or-take, length-map, length-take-le}
 use Rattle.std.proofs.lemmas.Bool.{cases_eq, cases_lt, eq-eqb, ne_eqb, eqb-true, and_parts, cases_Bool, both_ways}
-use Rattle.circuit.specs.Machines.{Machine, same_site, forces, forced}
+use Rattle.circuit.specs.Machines.{same_site, forces, forced}
 use Rattle.circuit.specs.declared.faults.Site.{Site}
 use Rattle.circuit.specs.declared.faults.Site.TheVariants.{Stem, Pin}
 use Rattle.circuit.specs.declared.faults.Fault.{Fault}

@@ -1,5 +1,5 @@
 -- The laws of a vector.
-use Rattle.std.proofs.Common.{◌≡◌, ℕ, ◌+◌, ◌-◌, ◌^◌, ◌<◌, ◌≤◌, Bool, true, false, cond, length, Some, None, sym, refl, ap, ◌∙◌, subst, ⊎_elim, arith}
+use Rattle.std.proofs.Common.{◌≡◌, ℕ, ◌+◌, ◌-◌, ◌^◌, ◌<◌, ◌≤◌, true, false, cond, length, Some, None, sym, ap, ◌∙◌, subst, ⊎_elim, arith}
 use lib.Bits.{bit_xor, xor_lt, xor_self}
 use Rattle.std.proofs.lemmas.Bool.{cases_Bool}
 use Rattle.circuit.specs.Machines.{Machine, binary, effect, bit_of, value_at, stems, word, fail_word}

@@ -1,5 +1,5 @@
 -- One output more of a word.
-use Rattle.std.proofs.Common.{◌≡◌, ℕ, suc, ◌+◌, ◌*◌, ◌%◌, ◌^◌, ◌<◌, ◌≤◌, Bool, true, false, cond, leb, List, [], ◌∷◌, ◌++◌, length, get_or, take, sym, refl, ap, ◌∙◌, mul_assoc, one-mul, pow-suc, zero-mul, arith, pow-add}
+use Rattle.std.proofs.Common.{◌≡◌, ℕ, suc, ◌+◌, ◌*◌, ◌%◌, ◌^◌, ◌<◌, ◌≤◌, Bool, true, false, cond, leb, List, [], ◌∷◌, ◌++◌, length, get_or, take, sym, ap, ◌∙◌, mul_assoc, one-mul, pow-suc, zero-mul, arith, pow-add}
 use mir.Val.{bool_byte}
 use Rattle.std.proofs.lemmas.List.{take_more, length-take-le, get_or-map}
 use Rattle.std.proofs.lemmas.Nat.{one_shl}

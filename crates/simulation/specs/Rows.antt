@@ -1,5 +1,5 @@
 -- What one vector files of the faults listed.
-use Rattle.std.specs.Prelude.{ℕ, zero, suc, ◌-◌, ◌*◌, ◌/◌, Bool, cond, List, [], ◌∷◌, length, drop, Some, None, ◌==◌, bit_xor}
+use Rattle.std.specs.Prelude.{ℕ, suc, ◌-◌, ◌*◌, ◌/◌, cond, List, [], ◌∷◌, length, drop, Some, None, ◌==◌, bit_xor}
 use Rattle.circuit.specs.Machines.{Machine, fail_word}
 use Rattle.circuit.specs.Plans.{Plan}
 use Rattle.circuit.specs.declared.faults.Fault.{Fault}

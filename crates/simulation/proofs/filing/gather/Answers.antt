@@ -1,4 +1,4 @@
-use Rattle.std.proofs.Common.{◌≡◌, ◌+◌, [], ◌∷◌, ◌++◌, length, drop, sym, ap, ◌∙◌, arith}
+use Rattle.std.proofs.Common.{◌+◌, [], ◌∷◌, ◌++◌, drop, sym, ap, ◌∙◌, arith}
 use Rattle.std.proofs.lemmas.List.{at_drop_all, append-nil, append_assoc, length-take-le}
 use Rattle.simulation.specs.Members.{members}
 use Rattle.simulation.specs.Rows.{live}
@@ -11,14 +11,14 @@ pub add-requires : goal.add-requires
 add-requires c =
     let b = c.loop-one.batch in
     let xs = c.args.listed.now in
-    let i = c.loop-one.one_Index in
+    let i = c.loop-one.one-index in
     omega (arith, live_room xs i _ c.loop-one-test.true (members b) 64 (sym c.if-is_live.ensures) c.loop-one.invariant c.requires, length-take-le b.count b.faults (roomy b))
 
 pub loop-one-preserved : goal.loop-one-preserved
 loop-one-preserved c =
     let b = c.loop-one.batch in
     let xs = c.args.listed.now in
-    let i = c.loop-one.one_Index in
+    let i = c.loop-one.one-index in
     let lt = c.loop-one-test.true in
     elim c.if-is_live.branch [
       | then-is_live w ↦
@@ -29,4 +29,4 @@ loop-one-preserved c =
     ]
 
 pub returns : goal.returns
-returns c = sym (append-nil _) ∙ ap (λ fs. members c.loop-one.batch ++ fs) (sym (at_drop_all live c.args.listed.now c.loop-one.one_Index (omega arith))) ∙ c.loop-one.invariant
+returns c = sym (append-nil _) ∙ ap (λ fs. members c.loop-one.batch ++ fs) (sym (at_drop_all live c.args.listed.now c.loop-one.one-index (omega arith))) ∙ c.loop-one.invariant

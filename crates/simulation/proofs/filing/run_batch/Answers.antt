@@ -1,4 +1,4 @@
-use Rattle.std.proofs.Common.{◌≡◌, ℕ, ◌≤◌, ◌++◌, length, take, drop, sym, ap, ◌∙◌, subst, arith}
+use Rattle.std.proofs.Common.{◌≡◌, ℕ, ◌≤◌, ◌++◌, length, take, ap, ◌∙◌, subst, arith}
 use Rattle.circuit.specs.Machines.{binary, value_at, word_of, word}
 use Rattle.simulation.specs.Lanes.{machine_at, lane_word, Shows}
 use Rattle.simulation.specs.Rows.{live, nameless}

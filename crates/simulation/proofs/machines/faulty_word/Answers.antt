@@ -1,4 +1,4 @@
-use Rattle.std.proofs.Common.{◌≡◌, [], ◌∷◌, length, get_or, Some, None, Ok, sym, refl, ap, ◌∙◌, ap₂}
+use Rattle.std.proofs.Common.{◌≡◌, [], ◌∷◌, length, get_or, Some, None, Ok, sym, ap, ◌∙◌, ap₂}
 use lib.Bits.{bit_xor}
 use Rattle.circuit.specs.Machines.{word, fail_word}
 use Rattle.circuit.specs.Plans.{plan}

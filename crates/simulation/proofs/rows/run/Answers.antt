@@ -1,5 +1,4 @@
-use Rattle.std.proofs.Common.{◌≡◌, ◌+◌, ◌-◌, ◌<◌, ◌≤◌, length, take, drop, sym, refl, ap, ◌∙◌, subst, arith}
-use Rattle.simulation.specs.declared.listing.Listed.{Listed}
+use Rattle.std.proofs.Common.{◌+◌, ◌<◌, ◌≤◌, length, sym, refl, ap, ◌∙◌, subst, arith}
 use Rattle.simulation.specs.Lanes.{Shows}
 use Rattle.simulation.specs.Rows.{live, entry, nameless}
 use Rattle.simulation.proofs.Runs.{front_here, part_is, part_length, begins_first, part_within, part_few, begins_next, last_here, filled_more, rest_more, filled_all}

@@ -1,8 +1,6 @@
-use Rattle.std.proofs.Common.{◌≡◌, suc, ◌+◌, ◌-◌, ◌≤◌, true, false, cond, Some, sym, ap, ◌∙◌, add-one, arith}
-use Rattle.circuit.specs.Machines.{bit_of}
+use Rattle.std.proofs.Common.{◌≡◌, suc, ◌+◌, ◌-◌, cond, Some, sym, ap, ◌∙◌, add-one, arith}
 use Rattle.circuit.specs.Plans.{plan}
 use Rattle.simulation.specs.Checks.{lowest}
-use Rattle.simulation.specs.Laws.{Lawful}
 use Rattle.simulation.proofs.Lawfuls.{lawful}
 use Rattle.simulation.proofs.rows.stray.Goals as goal
 

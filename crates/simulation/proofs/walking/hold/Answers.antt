@@ -1,8 +1,7 @@
-use Rattle.std.proofs.Common.{◌≡◌, ℕ, ◌+◌, ◌-◌, ◌<◌, ◌≤◌, Bool, true, false, cond, ◌&&◌, eqb, leb, length, get_or, sym, refl, ap, ◌∙◌, subst, arith}
+use Rattle.std.proofs.Common.{◌≡◌, ◌+◌, ◌-◌, ◌<◌, Bool, true, false, cond, ◌&&◌, eqb, get_or, sym, refl, ap, ◌∙◌, subst, arith}
 use Rattle.std.proofs.lemmas.Bool.{le-leb}
-use Rattle.circuit.specs.Machines.{same_site}
 use Rattle.circuit.specs.Plans.{line_of}
-use Rattle.simulation.specs.Lanes.{line_at, latest, no_fault}
+use Rattle.simulation.specs.Lanes.{latest, no_fault}
 use Rattle.simulation.proofs.Chains.{latest_le}
 use Rattle.simulation.proofs.Holding.{Passed, roomy, passed_none, passed_one, passed_all}
 use Rattle.simulation.proofs.walking.hold.Given as given

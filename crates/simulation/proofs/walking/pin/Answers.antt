@@ -1,4 +1,4 @@
-use Rattle.std.proofs.Common.{◌≡◌, cond, ltb, length, get_or, sym, ap, ◌∙◌}
+use Rattle.std.proofs.Common.{cond, length, get_or, sym, ap, ◌∙◌}
 use Rattle.std.proofs.lemmas.Bool.{lt-ltb, le-ltb}
 use Rattle.circuit.specs.Gates.{filler}
 use Rattle.circuit.specs.Machines.{forced, forces, binary, value_at}

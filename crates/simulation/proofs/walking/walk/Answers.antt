@@ -2,7 +2,7 @@ use Rattle.std.proofs.Common.{◌≡◌, ◌+◌, ◌<◌, length, get_or, take,
 use Rattle.std.proofs.lemmas.List.{at_drop_all, take_more_set, map_push, length-map}
 use Rattle.circuit.specs.Machines.{effect, binary, bit_of, value_at, stem_value, values_from}
 use Rattle.circuit.specs.Shape.{blank}
-use Rattle.simulation.specs.Lanes.{machine_at, seen, Shows}
+use Rattle.simulation.specs.Lanes.{machine_at, seen}
 use Rattle.simulation.specs.Members.{members}
 use Rattle.simulation.proofs.Tables.{rest_keeps}
 use Rattle.simulation.proofs.Walks.{values_step}

@@ -1,4 +1,4 @@
-use Rattle.std.proofs.Common.{◌≡◌, ℕ, ◌+◌, ◌<◌, ◌≤◌, length, get_or, set, sym, ap, ◌∙◌, subst, arith}
+use Rattle.std.proofs.Common.{◌+◌, ◌<◌, ◌≤◌, length, get_or, set, ap, ◌∙◌, arith}
 use Rattle.std.proofs.lemmas.List.{take_more_set, length-set}
 use Rattle.circuit.specs.Plans.{line_of}
 use Rattle.simulation.proofs.Chains.{tops_in, tops_out, nexts_in, nexts_out}
@@ -17,31 +17,22 @@ invariant_of-self c =
       | then-line-lt-MAX_LINES w ↦
           let low : line_of c.args.fault.site < 1024 = omega (arith, w.if-line-lt-MAX_LINES.true) in
           let head : line_of c.args.fault.site < length c.args.self.now.heads = omega arith in
-          let link : c.args.self.now.count + 1 < length c.args.self.now.links = omega arith in (
-            omega arith,
-            (
-              omega (arith, length-set fs n f),
-              (
-                (λ g lt. ap (λ s. get_or s.1.1.1.0 g 0) w.self-is ∙ ap (λ k. get_or (set b.heads k (n + 1)) g 0) e ∙ tops_in fs n f room b.heads head b.tops g lt),
-                (
-                  (λ i h lt. ap (λ s. get_or s.1.1.1.1.0 (i + 1) 0) w.self-is ∙ ap (λ k. get_or (set b.links (n + 1) (get_or b.heads k 0)) (i + 1) 0) e
-                      ∙ nexts_in fs n f room b.heads b.links link low b.tops b.nexts i h lt),
-                  tt,
-                ),
-              ),
-            ),
-          )
+          let link : c.args.self.now.count + 1 < length c.args.self.now.links = omega arith in
+          record {
+            few = omega arith;
+            sized = omega (arith, length-set fs n f);
+            tops = λ g lt. ap (λ s. get_or s.1.1.1.0 g 0) w.self-is ∙ ap (λ k. get_or (set b.heads k (n + 1)) g 0) e ∙ tops_in fs n f room b.heads head b.tops g lt;
+            nexts = λ i h lt. ap (λ s. get_or s.1.1.1.1.0 (i + 1) 0) w.self-is ∙ ap (λ k. get_or (set b.links (n + 1) (get_or b.heads k 0)) (i + 1) 0) e
+                ∙ nexts_in fs n f room b.heads b.links link low b.tops b.nexts i h lt;
+          }
       | else-line-lt-MAX_LINES w ↦
-          let off : 1024 ≤ line_of c.args.fault.site = omega (arith, w.if-line-lt-MAX_LINES.false) in (
-            omega arith,
-            (
-              omega (arith, length-set fs n f),
-              (
-                (λ g lt. ap (λ s. get_or s.1.1.1.0 g 0) w.self-is ∙ tops_out fs n f room b.heads off b.tops g lt),
-                ((λ i h lt. ap (λ s. get_or s.1.1.1.1.0 (i + 1) 0) w.self-is ∙ nexts_out fs n f room b.links off b.nexts i h lt), tt),
-              ),
-            ),
-          )
+          let off : 1024 ≤ line_of c.args.fault.site = omega (arith, w.if-line-lt-MAX_LINES.false) in
+          record {
+            few = omega arith;
+            sized = omega (arith, length-set fs n f);
+            tops = λ g lt. ap (λ s. get_or s.1.1.1.0 g 0) w.self-is ∙ tops_out fs n f room b.heads off b.tops g lt;
+            nexts = λ i h lt. ap (λ s. get_or s.1.1.1.1.0 (i + 1) 0) w.self-is ∙ nexts_out fs n f room b.links off b.nexts i h lt;
+          }
     ]
 
 pub returns : goal.returns

@@ -4,4 +4,9 @@ use Rattle.simulation.specs.Lanes.{no_fault}
 use Rattle.simulation.proofs.batches.Batch.new.Goals as goal
 
 pub invariant_of-result : goal.invariant_of-result
-invariant_of-result c = (omega arith, (length-replicate 64 no_fault, ((λ g lt. get_or-replicate _ g 0 0 lt), ((λ i lt. absurd (omega arith)), tt))))
+invariant_of-result c = record {
+  few = omega arith;
+  sized = length-replicate 64 no_fault;
+  tops = λ g lt. get_or-replicate _ g 0 0 lt;
+  nexts = λ i lt. absurd (omega arith);
+}
