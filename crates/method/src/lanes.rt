@@ -1,5 +1,5 @@
 // What a method of simulation is.
-ghost use Rattle.std.specs.Prelude.{◌≡◌, ℕ, ◌≤◌, Bool, ◌&&◌, leb, [], ◌∷◌, if◌then◌else◌, nat_eq, nat_le};
+ghost use Rattle.std.specs.Prelude.{◌≡◌, ℕ, ◌≤◌, Bool, ◌&&◌, [], ◌∷◌, if◌then◌else◌, nat_eq, nat_le};
 ghost use Rattle.circuit.specs.Gates.{gate_on};
 
 use circuit::Kind;
@@ -29,7 +29,7 @@ pub trait Method: Copy {
 
     // The bit in a lane; lane 0's for a lane past the last.
     fn look(self, at: usize) -> bool
-        ensures { result ≡ lane self (if leb at count then at else 0) };
+        ensures { result ≡ lane self (if nat_le at count then at else 0) };
 
     ghost least: { 1 ≤ count };
 
