@@ -4,7 +4,7 @@ use Rattle.std.specs.List.{slice_get}
 use Rattle.std.proofs.lemmas.List.{length_push, length-take}
 use Rattle.std.proofs.lemmas.Option.{slice_get-get_or}
 use Rattle.std.proofs.lemmas.Bool.{cases_eq, ne_eqb, ltb-false}
-use Rattle.circuit.specs.Machines.{Logic, Effect, forced, pins_seen, stem_value, value_at, values_from, same_site, effect, binary, bit_of, word, word_of}
+use Rattle.circuit.specs.Machines.{Logic, Effect, forced, pins_seen, stem_value, value_at, values_from, same_site, effect, binary, bit_of, word, word_from}
 use Rattle.circuit.specs.Plans.{Plan, pins_at, has_site}
 use Rattle.circuit.specs.Shape.{blank, pin_count}
 use Rattle.circuit.specs.declared.faults.Site.{Site}
@@ -69,7 +69,7 @@ module _ (p : Plan) where
 
   pub absent_word : (v : ℕ) (f : Fault) → has_site p f.site ≡ false → word p (Some f) v ≡ word p None v
   absent_word v f none =
-      ap (λ vs. word_of (value_at binary vs) p.outputs)
+      ap (λ vs. word_from (value_at binary vs) p.outputs)
       (values_agree binary (effect (Some f)) (effect None) (bit_of v) [] p.lines
       (λ i lt. ap (λ k. (effect (Some f)).stem k) (zero-add i) ∙ ap (λ b. cond b (Some f.stuck) None) (not_stem f.site none i lt))
       (λ i q lt low. ap (λ k. (effect (Some f)).pin k q) (zero-add i) ∙ ap (λ b. cond b (Some f.stuck) None) (not_pin f.site none i q lt low)))

@@ -3,13 +3,13 @@ use Rattle.std.proofs.Common.{◌≡◌, ℕ, ◌^◌, ◌<◌, ◌≤◌, Bool,
 use lib.Bits.{bit_xor, xor_self, xor_assoc, xor_zero_r}
 use Rattle.std.proofs.lemmas.Nat.{pow_below}
 use Rattle.std.proofs.lemmas.Bool.{cases_lt}
-use Rattle.circuit.specs.Machines.{word_of}
+use Rattle.circuit.specs.Machines.{word_from}
 
 bit_low : (b : Bool) → cond b 1 0 ≤ 1
 bit_low true = omega arith
 bit_low false = omega arith
 
-pub word_low : (value : ℕ → Bool) (ks : List ℕ) → word_of value ks < 2 ^ length ks
+pub word_low : (value : ℕ → Bool) (ks : List ℕ) → word_from value ks < 2 ^ length ks
 word_low value [] = omega arith
 word_low value (k ∷ ks) = omega (arith, bit_low (value k), word_low value ks, pow-suc 2 (length ks))
 

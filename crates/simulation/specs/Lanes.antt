@@ -1,7 +1,7 @@
 -- The faults of a batch in their lanes, and which of them sit at a line.
 use Rattle.std.specs.Prelude.{◌≡◌, ℕ, zero, suc, ◌≤◌, Bool, false, cond, List, ◌∷◌, map, length, get_or, take, Some, None, ◌==◌, nat_lt, slice_index, slice_index_or}
 use Rattle.circuit.specs.Gates.{filler}
-use Rattle.circuit.specs.Machines.{Machine, Effect, forced, stems, binary, value_at, word_of}
+use Rattle.circuit.specs.Machines.{Machine, Effect, forced, stems, binary, value_at, word_from}
 use Rattle.circuit.specs.Plans.{line_of}
 use Rattle.circuit.specs.Shape.{least_pins, most_pins, pin_count}
 use Rattle.circuit.specs.declared.lines.Gate.{Gate as GateT}
@@ -19,7 +19,7 @@ seen lane xs l = map (λ x. lane x l) xs
 
 -- the output word of a lane, where the table has the stems' values
 abbrev pub lane_word : {X : Type 0} → (X → ℕ → Bool) → List X → List ℕ → ℕ → ℕ
-lane_word lane xs outs l = word_of (value_at binary (seen lane xs l)) outs
+lane_word lane xs outs l = word_from (value_at binary (seen lane xs l)) outs
 
 -- the first entries of a working table, one per line, hold the stems' values in every lane
 abbrev pub Shows : {X : Type 0} → (X → ℕ → Bool) → ℕ → List Fault → ℕ → List Line → List X → Type 0

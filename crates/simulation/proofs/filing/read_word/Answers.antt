@@ -1,6 +1,6 @@
 use Rattle.std.proofs.Common.{◌+◌, ◌^◌, ◌<◌, get_or, sym, ap, ◌∙◌, subst, arith}
 use Rattle.std.proofs.lemmas.List.{take_all}
-use Rattle.circuit.specs.Machines.{binary, value_at, word_of}
+use Rattle.circuit.specs.Machines.{binary, value_at, word_from}
 use Rattle.simulation.specs.Lanes.{seen}
 use Rattle.simulation.proofs.Sums.{look_at, word_step, bit_shl, sum_below}
 use Rattle.simulation.proofs.filing.read_word.Goals as goal
@@ -20,4 +20,4 @@ loop-j-preserved g c =
     )
 
 pub returns : goal.returns
-returns g c = c.loop-j.invariant.1 ∙ ap (word_of (value_at binary (seen g.M.Method.lane c.args.stems.now c.args.lane))) (take_all _ _ c.loop-j-test.false)
+returns g c = c.loop-j.invariant.1 ∙ ap (word_from (value_at binary (seen g.M.Method.lane c.args.stems.now c.args.lane))) (take_all _ _ c.loop-j-test.false)
