@@ -6,7 +6,7 @@ use Rattle.std.specs.List.{prefix_len, suffix_len, AllByRecursion as All, slice_
 use Rattle.std.proofs.ByRecursion.{IsAscii-from_all}
 use Rattle.std.proofs.lemmas.Fmt.{decimal_by_steps}
 use Rattle.std.proofs.lemmas.List.{append_assoc, reverse-append, take_all}
-use Rattle.std.proofs.lemmas.Result.{IfOkWeaker}
+use Rattle.std.proofs.lemmas.Result.{IfOk-weaker}
 use Rattle.std.proofs.lemmas.Bool.{or_cases, and_parts, leb-true, ltb-true, eqb-true, ne_eqb, both_ways, or_from}
 use Rattle.std.proofs.lemmas.Str.{IsUtf8-from_ascii}
 use Rattle.circuit.specs.Plans.{Plan, has_site, pins_at, line_of}
@@ -107,4 +107,4 @@ renamed view r f u w e m = subst (λ (n : List ℕ). IfOk r (λ s. view s ≡ fa
 
 pub read_again : {S E : Type 0} (view : S → List ℕ) (r : Result S E) (p : Plan) (f : Fault) (w : List ℕ) → Counted p.lines → Names p w (line_of f.site) → has_site p f.site ≡ true → IfOk r (λ s. view s ≡ fault_text w f) → IfOk r (λ s. fault_of p (item 1 (view s)) ≡ Ok f)
 read_again view r p f w counted named there m =
-    IfOkWeaker r (λ s. view s ≡ fault_text w f) (λ s. fault_of p (item 1 (view s)) ≡ Ok f) (λ s e. ap (λ bs. fault_of p (item 1 bs)) e ∙ read_written p w counted f named there) m
+    IfOk-weaker r (λ s. view s ≡ fault_text w f) (λ s. fault_of p (item 1 (view s)) ≡ Ok f) (λ s e. ap (λ bs. fault_of p (item 1 bs)) e ∙ read_written p w counted f named there) m

@@ -4,15 +4,15 @@ use Rattle.textfiles.specs.Cursors.{spot}
 use Rattle.textfiles.specs.Faults.{only, places_from}
 use Rattle.textfiles.proofs.PinTurns.{held, fed_again, fed_first, fed_on, fed_end}
 use Rattle.textfiles.proofs.faults.only_pin.Goals as goal
-use Rattle.textfiles.proofs.faults.only_pin.Goals.{then-gate-p+else-is-some, else-gate-p}
+use Rattle.textfiles.proofs.faults.only_pin.Goals.{then-gate-p+else-is_some, else-gate-p}
 
-pub returns-then-is-some : goal.returns-then-is-some
-returns-then-is-some c =
+pub returns-then-is_some : goal.returns-then-is_some
+returns-then-is_some c =
     let g = c.args.gate in
     let four : length g.pins ≡ 4 = search rules in
     let within : c.loop-p.p < length (take g.count g.pins) = simp length-take (omega arith) in
     ap Err c.flaw.ensures
-    ∙ sym (fed_again (spot c.args.from) c.args.line c.loop-p.p (take g.count g.pins) c.loop-p.found within (get_or-take g.count g.pins c.loop-p.p 0 c.loop-p-test.true ∙ c.if-gate-p.true) c.if-is-some.ensures)
+    ∙ sym (fed_again (spot c.args.from) c.args.line c.loop-p.p (take g.count g.pins) c.loop-p.found within (get_or-take g.count g.pins c.loop-p.p 0 c.loop-p-test.true ∙ c.if-gate-p.true) c.if-is_some.ensures)
     ∙ c.loop-p.invariant
 
 pub loop-p-preserved : goal.loop-p-preserved
@@ -28,7 +28,7 @@ loop-p-preserved c =
     let within : p < length (take g.count g.pins) = simp length-take (omega arith) in
     let same = get_or-take g.count g.pins p 0 c.loop-p-test.true in
     elim c.if-gate-p.branch [
-      | then-gate-p+else-is-some w ↦ ap (λ (x : Option ℕ). only s (held x ++ left)) w.found-is ∙ sym (fed_first s l p qs f within (same ∙ w.if-gate-p.true) w.if-is-some.ensures) ∙ c.loop-p.invariant
+      | then-gate-p+else-is_some w ↦ ap (λ (x : Option ℕ). only s (held x ++ left)) w.found-is ∙ sym (fed_first s l p qs f within (same ∙ w.if-gate-p.true) w.if-is_some.ensures) ∙ c.loop-p.invariant
       | else-gate-p w ↦ ap (λ (x : Option ℕ). only s (held x ++ left)) w.found-is ∙ sym (fed_on s l p qs f within (λ e. w.if-gate-p.false (sym same ∙ e))) ∙ c.loop-p.invariant
     ]
 

@@ -9,5 +9,5 @@ pub returns : goal.returns
 returns c =
     let p = plan c.args.circuit.now in
     let s = item 1 c.args.word.now in
-    let same : c.read-item.result ≡ fault_of p s = c.read-item.ensures ∙ ap (fault_of p) c.item.ensures in
-    record { value = same; law = faithful p s c.read-item.result same }
+    let same : c.read_item.result ≡ fault_of p s = c.read_item.ensures ∙ ap (fault_of p) c.item.ensures in
+    record { value = same; law = faithful p s c.read_item.result same }

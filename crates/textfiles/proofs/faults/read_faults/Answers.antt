@@ -6,19 +6,19 @@ use Rattle.textfiles.specs.Items.{items_of}
 use Rattle.textfiles.proofs.Denoted.{faults_accepted}
 use Rattle.textfiles.proofs.faults.read_faults.Goals as goal
 
-pub returns-in-err-read-item : goal.returns-in-err-read-item
-returns-in-err-read-item c =
+pub returns-in_err-read_item : goal.returns-in_err-read_item
+returns-in_err-read_item c =
     let p = plan c.args.circuit.now in
     let text = c.args.text.now in
-    let r = c.from-residual.result in
+    let r = c.from_residual.result in
     let value : Answers vec_items r (faults_of text p) = search rules in
     record { value = value; law = faults_accepted p vec_items (items_of text) r value }
 
-pub returns-in-err-push : goal.returns-in-err-push
-returns-in-err-push c =
+pub returns-in_err-push : goal.returns-in_err-push
+returns-in_err-push c =
     let p = plan c.args.circuit.now in
     let text = c.args.text.now in
-    let r = c.from-residual-in-err-push.result in
+    let r = c.from_residual-in_err-push.result in
     let value : Answers vec_items r (faults_of text p) = search rules in
     record { value = value; law = faults_accepted p vec_items (items_of text) r value }
 

@@ -15,9 +15,9 @@ returns-then-j-most c =
     ∙ sym (too_long c.args.inputs (spot c.args.item) c.loop-j.vector c.loop-j.j c.args.item.rest.now c.loop-j-test.true (omega arith))
     ∙ c.loop-j.invariant.1
 
-pub returns-in-default : goal.returns-in-default
-returns-in-default c =
-    ap Err (c.flaw-in-default.ensures ∙ ap (λ s. flaw s NotABit) c.skip-in-default.ensures)
+pub returns-in_default : goal.returns-in_default
+returns-in_default c =
+    ap Err (c.flaw-in_default.ensures ∙ ap (λ s. flaw s NotABit) c.skip-in_default.ensures)
     ∙ sym (no_bit c.args.inputs (spot c.args.item) c.loop-j.vector c.loop-j.j c.args.item.rest.now c.loop-j-test.true (omega arith) (λ e. omega arith) (λ e. omega arith))
     ∙ c.loop-j.invariant.1
 

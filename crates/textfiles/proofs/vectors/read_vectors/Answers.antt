@@ -5,19 +5,19 @@ use Rattle.textfiles.specs.Items.{items_of}
 use Rattle.textfiles.proofs.VectorLaw.{vectors_accepted}
 use Rattle.textfiles.proofs.vectors.read_vectors.Goals as goal
 
-pub returns-in-err-read-vector : goal.returns-in-err-read-vector
-returns-in-err-read-vector c =
+pub returns-in_err-read_vector : goal.returns-in_err-read_vector
+returns-in_err-read_vector c =
     let n = c.args.inputs in
     let text = c.args.text.now in
-    let r = c.from-residual.result in
+    let r = c.from_residual.result in
     let value : Answers vec_items r (vectors_of text n) = search rules in
     record { value = value; law = vectors_accepted n vec_items (items_of text) r value }
 
-pub returns-in-err-push : goal.returns-in-err-push
-returns-in-err-push c =
+pub returns-in_err-push : goal.returns-in_err-push
+returns-in_err-push c =
     let n = c.args.inputs in
     let text = c.args.text.now in
-    let r = c.from-residual-in-err-push.result in
+    let r = c.from_residual-in_err-push.result in
     let value : Answers vec_items r (vectors_of text n) = search rules in
     record { value = value; law = vectors_accepted n vec_items (items_of text) r value }
 

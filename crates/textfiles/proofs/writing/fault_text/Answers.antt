@@ -12,13 +12,13 @@ returns c =
     let p = plan c.args.circuit.now in
     let f = c.args.fault in
     let w = name_of p f in
-    let r = c.write-fault.result in
-    let shown = c.name-text.result.now in
+    let r = c.write_fault.result in
+    let shown = c.name_text.result.now in
     let same : spelled (option_map bytes_of c.name-name.result) ≡ w = ap spelled (c.name-name.ensures ∙ ap (slice_get p.names) c.line.ensures) in
     let named : IsUtf8 w → IfOk r (λ s. string_bytes s ≡ fault_text w f) =
-    λ u. renamed string_bytes r f shown w (c.name-text.ensures.text (subst IsUtf8 (sym same) u) ∙ same) c.write-fault.ensures in
+    λ u. renamed string_bytes r f shown w (c.name_text.ensures.text (subst IsUtf8 (sym same) u) ∙ same) c.write_fault.ensures in
     record {
       named = named;
-      unnamed = λ no. renamed string_bytes r f shown [] (c.name-text.ensures.other (λ u. no (subst IsUtf8 same u))) c.write-fault.ensures;
+      unnamed = λ no. renamed string_bytes r f shown [] (c.name_text.ensures.other (λ u. no (subst IsUtf8 same u))) c.write_fault.ensures;
       law = λ h there. read_again string_bytes r p f w c.args.circuit.now.draft.counted h there (named (name_text w h.bytes));
     }
