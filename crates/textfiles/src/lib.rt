@@ -1,5 +1,6 @@
 // Vectors, fault lists and logs as text files.
 #![tactic(auto)]
+
 mod cursors;
 mod faults;
 mod flaws;
