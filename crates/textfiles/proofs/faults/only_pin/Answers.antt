@@ -6,15 +6,6 @@ use Rattle.textfiles.proofs.PinTurns.{held, fed_again, fed_first, fed_on, fed_en
 use Rattle.textfiles.proofs.faults.only_pin.Goals as goal
 use Rattle.textfiles.proofs.faults.only_pin.Goals.{then-gate-p+else-is_some, else-gate-p}
 
-pub returns-then-is_some : goal.returns-then-is_some
-returns-then-is_some c =
-    let g = c.args.gate in
-    let four : length g.pins ≡ 4 = search rules in
-    let within : c.loop-p.p < length (take g.count g.pins) = simp length-take (omega arith) in
-    ap Err c.flaw.ensures
-    ∙ sym (fed_again (spot c.args.from) c.args.line c.loop-p.p (take g.count g.pins) c.loop-p.found within (get_or-take g.count g.pins c.loop-p.p 0 c.loop-p-test.true ∙ c.if-gate-p.true) c.if-is_some.ensures)
-    ∙ c.loop-p.invariant
-
 pub loop-p-preserved : goal.loop-p-preserved
 loop-p-preserved c =
     let s = spot c.args.from in
@@ -31,22 +22,3 @@ loop-p-preserved c =
       | then-gate-p+else-is_some w ↦ ap (λ (x : Option ℕ). only s (held x ++ left)) w.found-is ∙ sym (fed_first s l p qs f within (same ∙ w.if-gate-p.true) w.if-is_some.ensures) ∙ c.loop-p.invariant
       | else-gate-p w ↦ ap (λ (x : Option ℕ). only s (held x ++ left)) w.found-is ∙ sym (fed_on s l p qs f within (λ e. w.if-gate-p.false (sym same ∙ e))) ∙ c.loop-p.invariant
     ]
-
-pub returns-in-Some : goal.returns-in-Some
-returns-in-Some c =
-    let g = c.args.gate in
-    let four : length g.pins ≡ 4 = search rules in
-    let all : length (take g.count g.pins) ≤ c.loop-p.p = simp length-take (omega arith) in
-    ap (λ (x : Option ℕ). only (spot c.args.from) (held x)) (sym c.in-Some.is)
-    ∙ sym (fed_end (spot c.args.from) c.args.line c.loop-p.p (take g.count g.pins) c.loop-p.found all)
-    ∙ c.loop-p.invariant
-
-pub returns-in-None : goal.returns-in-None
-returns-in-None c =
-    let g = c.args.gate in
-    let four : length g.pins ≡ 4 = search rules in
-    let all : length (take g.count g.pins) ≤ c.loop-p.p = simp length-take (omega arith) in
-    ap Err c.flaw-in-None.ensures
-    ∙ ap (λ (x : Option ℕ). only (spot c.args.from) (held x)) (sym c.in-None.is)
-    ∙ sym (fed_end (spot c.args.from) c.args.line c.loop-p.p (take g.count g.pins) c.loop-p.found all)
-    ∙ c.loop-p.invariant

@@ -6,25 +6,17 @@ use Rattle.textfiles.specs.Items.{items_of}
 use Rattle.textfiles.proofs.Denoted.{faults_accepted}
 use Rattle.textfiles.proofs.faults.read_faults.Goals as goal
 
-pub returns-in_err-read_item : goal.returns-in_err-read_item
-returns-in_err-read_item c =
+pub returns-in_err-read_item-clause-law : goal.returns-in_err-read_item-clause-law
+returns-in_err-read_item-clause-law c =
     let p = plan c.args.circuit.now in
     let text = c.args.text.now in
     let r = c.from_residual.result in
     let value : Answers vec_items r (faults_of text p) = search rules in
-    record { value = value; law = faults_accepted p vec_items (items_of text) r value }
+    faults_accepted p vec_items (items_of text) r value
 
-pub returns-in_err-push : goal.returns-in_err-push
-returns-in_err-push c =
-    let p = plan c.args.circuit.now in
-    let text = c.args.text.now in
-    let r = c.from_residual-in_err-push.result in
-    let value : Answers vec_items r (faults_of text p) = search rules in
-    record { value = value; law = faults_accepted p vec_items (items_of text) r value }
-
-pub returns : goal.returns
-returns c =
+pub returns-clause-law : goal.returns-clause-law
+returns-clause-law c =
     let p = plan c.args.circuit.now in
     let text = c.args.text.now in
     let value : Ok (vec_items c.loop-item.faults) ≡ faults_of text p = search rules in
-    record { value = value; law = faults_accepted p vec_items (items_of text) (Ok c.loop-item.faults) value }
+    faults_accepted p vec_items (items_of text) (Ok c.loop-item.faults) value

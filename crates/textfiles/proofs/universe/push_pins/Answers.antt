@@ -7,7 +7,3 @@ pub loop-pin-preserved : goal.loop-pin-preserved
 loop-pin-preserved c =
     next_pin (vec_items c.loop-pin.faults) (vec_items c.push_both.new.faults) c.args.line c.loop-pin.pin c.args.count c.loop-pin-test.true c.in_ok-push_both.ensures
     ∙ c.loop-pin.invariant
-
-pub returns : goal.returns
-returns c =
-    last_pin (vec_items c.loop-pin.faults) (vec_items c.args.faults.now ++ pin_faults c.args.line 0 c.args.count) c.args.line c.loop-pin.pin c.args.count c.loop-pin-test.false c.loop-pin.invariant

@@ -5,25 +5,17 @@ use Rattle.textfiles.specs.Items.{items_of}
 use Rattle.textfiles.proofs.VectorLaw.{vectors_accepted}
 use Rattle.textfiles.proofs.vectors.read_vectors.Goals as goal
 
-pub returns-in_err-read_vector : goal.returns-in_err-read_vector
-returns-in_err-read_vector c =
+pub returns-in_err-read_vector-clause-law : goal.returns-in_err-read_vector-clause-law
+returns-in_err-read_vector-clause-law c =
     let n = c.args.inputs in
     let text = c.args.text.now in
     let r = c.from_residual.result in
     let value : Answers vec_items r (vectors_of text n) = search rules in
-    record { value = value; law = vectors_accepted n vec_items (items_of text) r value }
+    vectors_accepted n vec_items (items_of text) r value
 
-pub returns-in_err-push : goal.returns-in_err-push
-returns-in_err-push c =
-    let n = c.args.inputs in
-    let text = c.args.text.now in
-    let r = c.from_residual-in_err-push.result in
-    let value : Answers vec_items r (vectors_of text n) = search rules in
-    record { value = value; law = vectors_accepted n vec_items (items_of text) r value }
-
-pub returns : goal.returns
-returns c =
+pub returns-clause-law : goal.returns-clause-law
+returns-clause-law c =
     let n = c.args.inputs in
     let text = c.args.text.now in
     let value : Ok (vec_items c.loop-item.vectors) ≡ vectors_of text n = search rules in
-    record { value = value; law = vectors_accepted n vec_items (items_of text) (Ok c.loop-item.vectors) value }
+    vectors_accepted n vec_items (items_of text) (Ok c.loop-item.vectors) value

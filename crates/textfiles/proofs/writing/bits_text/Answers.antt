@@ -10,7 +10,3 @@ loop-bit-preserved c =
     let ascii : c.low_bit.result < 128 = omega (arith, low_bit_ascii w, c.low_bit.ensures) in
     let pushed = c.in_ok-push.ensures.bytes ∙ ap (λ bs. t ++ bs) (c.in_ok-push.ensures.ascii ascii ∙ ap (λ b. b ∷ []) c.low_bit.ensures) in
     next_bit t (string_bytes c.push.new.self) w (min c.args.count 64) c.loop-bit._bit (omega arith) pushed ∙ c.loop-bit.invariant
-
-pub returns : goal.returns
-returns c =
-    last_bit (string_bytes c.loop-bit.text) (bits_text c.args.word c.args.count) c.loop-bit.rest (min c.args.count 64) c.loop-bit._bit (omega arith) c.loop-bit.invariant

@@ -7,8 +7,8 @@ use Rattle.textfiles.specs.Writing.{spelled, name_of, fault_text}
 use Rattle.textfiles.proofs.RoundTrip.{name_text, renamed, read_again}
 use Rattle.textfiles.proofs.writing.fault_text.Goals as goal
 
-pub returns : goal.returns
-returns c =
+pub returns-clause-law : goal.returns-clause-law
+returns-clause-law c =
     let p = plan c.args.circuit.now in
     let f = c.args.fault in
     let w = name_of p f in
@@ -17,8 +17,4 @@ returns c =
     let same : spelled (option_map bytes_of c.name-name.result) ≡ w = ap spelled (c.name-name.ensures ∙ ap (slice_get p.names) c.line.ensures) in
     let named : IsUtf8 w → IfOk r (λ s. string_bytes s ≡ fault_text w f) =
     λ u. renamed string_bytes r f shown w (c.name_text.ensures.text (subst IsUtf8 (sym same) u) ∙ same) c.write_fault.ensures in
-    record {
-      named = named;
-      unnamed = λ no. renamed string_bytes r f shown [] (c.name_text.ensures.other (λ u. no (subst IsUtf8 same u))) c.write_fault.ensures;
-      law = λ h there. read_again string_bytes r p f w c.args.circuit.now.draft.counted h there (named (name_text w h.bytes));
-    }
+    λ h there. read_again string_bytes r p f w c.args.circuit.now.draft.counted h there (named (name_text w h.bytes))

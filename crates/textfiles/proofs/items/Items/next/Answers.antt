@@ -6,14 +6,11 @@ use Rattle.textfiles.specs.Items.{items_after, lines_of}
 use Rattle.textfiles.proofs.ItemTurns.{item_here, item_none, shorter}
 use Rattle.textfiles.proofs.items.Items.next.Goals as goal
 
-pub returns-then-not-is_empty : goal.returns-then-not-is_empty
-returns-then-not-is_empty c =
+pub returns-then-not-is_empty-clause-items : goal.returns-then-not-is_empty-clause-items
+returns-then-not-is_empty-clause-items c =
     let text = c.loop-line.self.rest.now in
     let some = c.loop-line-test.ensures in
-    record {
-      items = sym c.loop-line.invariant.0 ∙ item_here c.loop-line.self.before text c.run.result c.split_at.result.0.now c.split_at.result.1.now c.past_end-self.result.now (spot c.item_of-item.result) some c.run.ensures.run c.split_at.ensures.front c.split_at.ensures.back c.past_end-self.ensures c.item_of-item.ensures c.if-not-is_empty.ensures;
-      low = omega (arith, shorter c.loop-line.self.before text c.run.result c.split_at.result.0.now c.split_at.result.1.now c.past_end-self.result.now (spot c.item_of-item.result) some c.run.ensures.run c.split_at.ensures.front c.split_at.ensures.back c.past_end-self.ensures c.item_of-item.ensures);
-    }
+    sym c.loop-line.invariant.0 ∙ item_here c.loop-line.self.before text c.run.result c.split_at.result.0.now c.split_at.result.1.now c.past_end-self.result.now (spot c.item_of-item.result) some c.run.ensures.run c.split_at.ensures.front c.split_at.ensures.back c.past_end-self.ensures c.item_of-item.ensures c.if-not-is_empty.ensures
 
 pub loop-line-preserved : goal.loop-line-preserved
 loop-line-preserved c =
@@ -22,10 +19,3 @@ loop-line-preserved c =
       sym (item_none c.loop-line.self.before text c.run.result c.split_at.result.0.now c.split_at.result.1.now c.past_end-self.result.now (spot c.item_of-item.result) some c.run.ensures.run c.split_at.ensures.front c.split_at.ensures.back c.past_end-self.ensures c.item_of-item.ensures c.if-not-is_empty.ensures) ∙ c.loop-line.invariant.0,
       omega (arith, shorter c.loop-line.self.before text c.run.result c.split_at.result.0.now c.split_at.result.1.now c.past_end-self.result.now (spot c.item_of-item.result) some c.run.ensures.run c.split_at.ensures.front c.split_at.ensures.back c.past_end-self.ensures c.item_of-item.ensures),
     )
-
-pub returns : goal.returns
-returns c =
-    record {
-      items = sym c.loop-line.invariant.0 ∙ ap (λ t. items_after c.loop-line.self.before (lines_of t)) (nil_from_length _ (eqb-true _ 0 (sym c.loop-line-test.ensures)));
-      low = c.loop-line.invariant.1;
-    }
