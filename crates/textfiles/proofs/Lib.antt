@@ -1,7 +1,6 @@
 pub mod ItemTurns
 pub mod BitTurns
 pub mod PinTurns
-pub mod Drops
 pub mod GatePins
 pub mod Pushes
 pub mod Fronts

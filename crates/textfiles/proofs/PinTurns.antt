@@ -1,19 +1,14 @@
 -- One turn over the lines that feed a gate's pins.
-use Rattle.std.proofs.Common.{◌≡◌, ℕ, ◌+◌, ◌<◌, ◌≤◌, true, false, List, [], ◌∷◌, ◌++◌, length, get_or, drop, is_some, Some, None, Err, Option, refl, ap, ◌∙◌}
-use Rattle.std.proofs.lemmas.List.{at_drop_more, at_drop_all, append-nil}
-use Rattle.std.proofs.lemmas.Bool.{cond-true, cond-false, eq-eqb, ne_eqb, true≢false, false≢true}
-use Rattle.textfiles.specs.Cursors.{Spot, flaw}
+use Rattle.std.proofs.Common.{◌≡◌, ℕ, ◌+◌, ◌<◌, false, List, [], ◌∷◌, ◌++◌, length, get_or, drop, is_some, Some, None, Option, refl, ap, ◌∙◌}
+use Rattle.std.proofs.lemmas.List.{at_drop_more}
+use Rattle.std.proofs.lemmas.Bool.{cond-true, cond-false, eq-eqb, ne_eqb, false≢true}
+use Rattle.textfiles.specs.Cursors.{Spot}
 use Rattle.textfiles.specs.Faults.{places_from, only}
-use Rattle.textfiles.specs.declared.flaws.What.TheVariants.{FedTwice}
 
 -- the pin found so far
 abbrev pub held : Option ℕ → List ℕ
 held None = []
 held (Some n) = n ∷ []
-
-second : (s : Spot) (f : Option ℕ) (i : ℕ) (is : List ℕ) → true ≡ is_some f → only s (held f ++ i ∷ is) ≡ Err (flaw s FedTwice)
-second s None i is t = absurd (true≢false t)
-second s (Some n) i is t = refl
 
 first : (s : Spot) (f : Option ℕ) (i : ℕ) (is : List ℕ) → false ≡ is_some f → only s (held f ++ i ∷ is) ≡ only s (i ∷ is)
 first s None i is t = refl
@@ -23,14 +18,8 @@ module _ (s : Spot) (l i : ℕ) (qs : List ℕ) (f : Option ℕ) where
   here : i < length qs → get_or qs i 0 ≡ l → only s (held f ++ places_from l i (drop i qs)) ≡ only s (held f ++ i ∷ places_from l (i + 1) (drop (i + 1) qs))
   here h e = ap (λ is. only s (held f ++ is)) (at_drop_more (places_from l i) qs i 0 h ∙ cond-true _ _ _ (eq-eqb _ l e))
 
-  pub fed_again : i < length qs → get_or qs i 0 ≡ l → true ≡ is_some f → only s (held f ++ places_from l i (drop i qs)) ≡ Err (flaw s FedTwice)
-  fed_again h e t = here h e ∙ second s f i _ t
-
   pub fed_first : i < length qs → get_or qs i 0 ≡ l → false ≡ is_some f → only s (held f ++ places_from l i (drop i qs)) ≡ only s (i ∷ places_from l (i + 1) (drop (i + 1) qs))
   fed_first h e t = here h e ∙ first s f i _ t
 
   pub fed_on : i < length qs → (get_or qs i 0 ≡ l → ⊥) → only s (held f ++ places_from l i (drop i qs)) ≡ only s (held f ++ places_from l (i + 1) (drop (i + 1) qs))
   fed_on h e = ap (λ is. only s (held f ++ is)) (at_drop_more (places_from l i) qs i 0 h ∙ cond-false _ _ _ (ne_eqb _ l e))
-
-  pub fed_end : length qs ≤ i → only s (held f ++ places_from l i (drop i qs)) ≡ only s (held f)
-  fed_end h = ap (λ is. only s (held f ++ is)) (at_drop_all (places_from l i) qs i h) ∙ ap (only s) (append-nil (held f))

@@ -1,8 +1,8 @@
-use Rattle.std.proofs.Common.{◌≡◌, ℕ, ◌+◌, ◌<◌, ◌≤◌, ◌++◌, length, take, drop, Err, Option, sym, ap, ◌∙◌, arith, rules}
+use Rattle.std.proofs.Common.{◌≡◌, ℕ, ◌+◌, ◌<◌, ◌++◌, length, take, drop, Option, sym, ap, ◌∙◌, arith, rules}
 use Rattle.std.proofs.lemmas.List.{length-take, get_or-take}
 use Rattle.textfiles.specs.Cursors.{spot}
 use Rattle.textfiles.specs.Faults.{only, places_from}
-use Rattle.textfiles.proofs.PinTurns.{held, fed_again, fed_first, fed_on, fed_end}
+use Rattle.textfiles.proofs.PinTurns.{held, fed_first, fed_on}
 use Rattle.textfiles.proofs.faults.only_pin.Goals as goal
 use Rattle.textfiles.proofs.faults.only_pin.Goals.{then-gate-p+else-is_some, else-gate-p}
 

@@ -1,6 +1,5 @@
-use Rattle.std.proofs.Common.{◌++◌, vec_items, ◌∙◌}
-use Rattle.textfiles.specs.Universe.{pin_faults}
-use Rattle.textfiles.proofs.Pushes.{next_pin, last_pin}
+use Rattle.std.proofs.Common.{vec_items, ◌∙◌}
+use Rattle.textfiles.proofs.Pushes.{next_pin}
 use Rattle.textfiles.proofs.universe.push_pins.Goals as goal
 
 pub loop-pin-preserved : goal.loop-pin-preserved

@@ -1,11 +1,7 @@
-use Rattle.std.proofs.Common.{◌+◌, drop, Err, sym, ap, ◌∙◌, arith}
-use Rattle.std.proofs.lemmas.Nat.{one_shl}
-use Rattle.std.proofs.lemmas.List.{at_drop_all}
-use Rattle.std.proofs.lemmas.Bool.{cond-true, cond-false, lt-ltb, le-ltb}
+use Rattle.std.proofs.Common.{Err, sym, ap, ◌∙◌, arith}
 use Rattle.textfiles.specs.Cursors.{spot, flaw}
-use Rattle.textfiles.specs.Vectors.{bits_on}
-use Rattle.textfiles.specs.declared.flaws.What.TheVariants.{NotABit, LongVector}
-use Rattle.textfiles.proofs.BitTurns.{doubled, too_long, zero_bit, one_bit, no_bit}
+use Rattle.textfiles.specs.declared.flaws.What.TheVariants.{LongVector}
+use Rattle.textfiles.proofs.BitTurns.{too_long}
 use Rattle.textfiles.proofs.vectors.read_vector.Goals as goal
 
 pub returns-then-j-most : goal.returns-then-j-most

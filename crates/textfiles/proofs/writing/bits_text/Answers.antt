@@ -1,6 +1,5 @@
 use Rattle.std.proofs.Common.{◌<◌, min, [], ◌∷◌, ◌++◌, string_bytes, ap, ◌∙◌, arith}
-use Rattle.textfiles.specs.Writing.{bits_text}
-use Rattle.textfiles.proofs.Pushes.{low_bit_ascii, next_bit, last_bit}
+use Rattle.textfiles.proofs.Pushes.{low_bit_ascii, next_bit}
 use Rattle.textfiles.proofs.writing.bits_text.Goals as goal
 
 pub loop-bit-preserved : goal.loop-bit-preserved

@@ -1,8 +1,5 @@
-use Rattle.std.proofs.Common.{sym, ap, ◌∙◌, arith}
-use Rattle.std.proofs.lemmas.List.{nil_from_length}
-use Rattle.std.proofs.lemmas.Bool.{eqb-true}
+use Rattle.std.proofs.Common.{sym, ◌∙◌, arith}
 use Rattle.textfiles.specs.Cursors.{spot}
-use Rattle.textfiles.specs.Items.{items_after, lines_of}
 use Rattle.textfiles.proofs.ItemTurns.{item_here, item_none, shorter}
 use Rattle.textfiles.proofs.items.Items.next.Goals as goal
 
