@@ -2,7 +2,7 @@
 use Rattle.std.proofs.Common.{◌≡◌, ℕ, ◌+◌, ◌-◌, ◌<◌, Bool, true, false, not, ◌&&◌, eqb, leb, List, [], ◌∷◌, ◌++◌, length, get_or, take, drop, Ok, Err, Result, sym, refl, ap, ◌∙◌, subst, ⊎_elim, arith, lit<}
 use Rattle.std.specs.Option.{ok_or}
 use Rattle.std.specs.Char.{is_ascii_digit}
-use Rattle.std.specs.List.{AllByRecursion as All, slice_get}
+use Rattle.std.specs.List.{AllByRecursion, slice_get}
 use Rattle.std.proofs.lemmas.List.{take_at, drop_at, take-append-drop, nil_from_length}
 use Rattle.std.proofs.lemmas.Bool.{cond-true, cond-false, cases_Bool, eqb-true, eqb-false, ne_eqb, not-false, or_cases, and_parts, and_left, le-leb, leb-true, and_from}
 use Rattle.circuit.specs.Names.{find}
@@ -38,10 +38,10 @@ module _ (ln en : ℕ) where
   at bs = record { rest = bs; line = ln; end = en }
 
   -- past a front of a class
-  past_front : (c : Class) (cs bs : List ℕ) → All (λ b. has c b ≡ true) cs → has c (get_or bs 0 0) ≡ false → past c (at (cs ++ bs)) ≡ at bs
+  past_front : (c : Class) (cs bs : List ℕ) → AllByRecursion (λ b. has c b ≡ true) cs → has c (get_or bs 0 0) ≡ false → past c (at (cs ++ bs)) ≡ at bs
   past_front c cs bs h stop = ap at (drop_at cs bs (run c (cs ++ bs)) (sym (leading_front (has c) cs bs h (leading_none (has c) bs stop))))
 
-  name_front : (cs bs : List ℕ) → All (λ b. has Name b ≡ true) cs → has Name (get_or bs 0 0) ≡ false → name_at (at (cs ++ bs)) ≡ cs
+  name_front : (cs bs : List ℕ) → AllByRecursion (λ b. has Name b ≡ true) cs → has Name (get_or bs 0 0) ≡ false → name_at (at (cs ++ bs)) ≡ cs
   name_front cs bs h stop = take_at cs bs (run Name (cs ++ bs)) (sym (leading_front (has Name) cs bs h (leading_none (has Name) bs stop)))
 
   slashed : (w : What) (v : Bool) → slash_at w (at (47 ∷ value_text v)) ≡ Ok v

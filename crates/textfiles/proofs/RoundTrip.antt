@@ -2,7 +2,7 @@
 use Rattle.std.proofs.Common.{◌≡◌, ℕ, ◌+◌, ◌<◌, ◌≤◌, Bool, true, false, ◌||◌, eqb, leb, List, [], ◌∷◌, ◌++◌, reverse, length, get_or, take, drop, IfOk, Some, None, Ok, IsUtf8, decimal, Option, Result, sym, refl, ap, ◌∙◌, subst, ⊎_elim, zero-le, arith}
 use Rattle.std.specs.Int.{is_in_range}
 use Rattle.std.specs.Char.{is_ascii_digit, is_ascii_alphabetic}
-use Rattle.std.specs.List.{prefix_len, suffix_len, AllByRecursion as All, slice_get}
+use Rattle.std.specs.List.{prefix_len, suffix_len, AllByRecursion, slice_get}
 use Rattle.std.proofs.ByRecursion.{IsAscii-from_all}
 use Rattle.std.proofs.lemmas.Fmt.{decimal_by_steps}
 use Rattle.std.proofs.lemmas.List.{append_assoc, reverse-append, take_all}
@@ -41,11 +41,11 @@ name_ascii b h =
     (or_cases (is_ascii_digit b) (eqb b 95) other))
     (or_cases (is_ascii_alphabetic b) (is_ascii_digit b || eqb b 95) h)
 
-all_ascii : (w : List ℕ) → All (λ b. has Name b ≡ true) w → All (λ b. b < 128) w
+all_ascii : (w : List ℕ) → AllByRecursion (λ b. has Name b ≡ true) w → AllByRecursion (λ b. b < 128) w
 all_ascii [] h = tt
 all_ascii (b ∷ bs) h = (name_ascii b h.0, all_ascii bs h.1)
 
-pub name_text : (w : List ℕ) → All (λ b. has Name b ≡ true) w → IsUtf8 w
+pub name_text : (w : List ℕ) → AllByRecursion (λ b. has Name b ≡ true) w → IsUtf8 w
 name_text w h = IsUtf8-from_ascii w (IsAscii-from_all w (all_ascii w h))
 
 differs : (b c : ℕ) → has Name b ≡ true → has Name c ≡ false → eqb b c ≡ false
@@ -74,7 +74,7 @@ last_digit (Stem l) true = (47 ∷ [], 49, refl, refl)
 last_digit (Pin l n) false = (46 ∷ (decimal n ++ 47 ∷ []), 48, ap (λ r. 46 ∷ r) (sym (append_assoc (decimal n) (47 ∷ []) (48 ∷ []))), refl)
 last_digit (Pin l n) true = (46 ∷ (decimal n ++ 47 ∷ []), 49, ap (λ r. 46 ∷ r) (sym (append_assoc (decimal n) (47 ∷ []) (49 ∷ []))), refl)
 
-first_no_blank : (w bs : List ℕ) → 1 ≤ length w → All (λ b. has Name b ≡ true) w → has Blank (get_or (w ++ bs) 0 0) ≡ false
+first_no_blank : (w bs : List ℕ) → 1 ≤ length w → AllByRecursion (λ b. has Name b ≡ true) w → has Blank (get_or (w ++ bs) 0 0) ≡ false
 first_no_blank [] bs some h = absurd (omega arith)
 first_no_blank (b ∷ w) bs some h = name_no_blank b h.0
 

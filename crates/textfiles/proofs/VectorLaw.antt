@@ -3,7 +3,7 @@ use Rattle.std.proofs.Common.{◌≡◌, ℕ, zero, suc, ◌+◌, ◌-◌, ◌*�
 use native.Mathlib.Nat.{two-pow-succ}
 use Rattle.std.proofs.lemmas.Nat.{shr-shr}
 use Rattle.std.proofs.lemmas.Bool.{cond-true, cond-false, cases_Bool, cases_eq, eq-eqb, ne_eqb, eqb-true, le-ltb, ltb-false, lt-leb, leb-false}
-use Rattle.std.specs.List.{AllByRecursion as All}
+use Rattle.std.specs.List.{AllByRecursion}
 use Rattle.textfiles.specs.Cursors.{Spot, skip, flaw}
 use Rattle.textfiles.specs.Flaws.{Answers}
 use Rattle.textfiles.specs.Items.{each, Accepts}
@@ -15,7 +15,7 @@ use Rattle.textfiles.proofs.EachItem.{accepts}
 use Rattle.textfiles.proofs.Steps.{unless_ok}
 
 abbrev Digits : List ℕ → Type 0
-Digits bs = All (λ b. (48 ≤ b) × (b ≤ 49)) bs
+Digits bs = AllByRecursion (λ b. (48 ≤ b) × (b ≤ 49)) bs
 
 -- the number of the digits, the first of which is bit 0
 abbrev number : List ℕ → ℕ

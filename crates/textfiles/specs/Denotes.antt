@@ -1,6 +1,6 @@
 -- Which bytes denote which fault.
 use Rattle.std.specs.Prelude.{◌≡◌, ℕ, ◌+◌, ◌<◌, ◌≤◌, Bool, true, List, ◌∷◌, ◌++◌, length, Some, Ok, Result}
-use Rattle.std.specs.List.{AllByRecursion as All, slice_get}
+use Rattle.std.specs.List.{AllByRecursion, slice_get}
 use Rattle.circuit.specs.Names.{find}
 use Rattle.circuit.specs.Plans.{Plan, has_site}
 use Rattle.circuit.specs.declared.faults.Fault.{Fault}
@@ -14,12 +14,12 @@ use Rattle.textfiles.specs.declared.flaws.Flaw.{Flaw}
 -- the bytes are the name of line l
 pub record Names (p : Plan) (w : List ℕ) (l : ℕ) : Type 0 where
   pub some : 1 ≤ length w
-  pub bytes : All (λ b. has Name b ≡ true) w
+  pub bytes : AllByRecursion (λ b. has Name b ≡ true) w
   pub line : find p.names w ≡ Some l
 
 -- spaces or tabs or none, a slash and the value
 pub data Ends : List ℕ → Bool → Type 0 where
-  ends : (gap : List ℕ) {v : Bool} → All (λ b. has Space b ≡ true) gap → Ends (gap ++ 47 ∷ value_text v) v
+  ends : (gap : List ℕ) {v : Bool} → AllByRecursion (λ b. has Space b ≡ true) gap → Ends (gap ++ 47 ∷ value_text v) v
 
 -- n is the one place at which l stands
 pub record Solely (l : ℕ) (qs : List ℕ) (n : ℕ) : Type 0 where
