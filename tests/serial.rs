@@ -1,4 +1,4 @@
-//! Tests the program `safd` on random circuits against a plain serial simulator: one machine and one vector at a time.
+//! Tests the program that simulates (`safd_next`) on random circuits against a plain serial simulator: one machine and one vector at a time.
 //!
 //!     rustc -O --edition 2021 -o serial tests/serial.rs
 //!     serial SAFD [--circuits N] [--seed S] [--jobs J]
