@@ -20,7 +20,7 @@ WORD = re.compile(r"(?<![\w'◌·-])[A-Za-z][\w'-]*")
 SIGNED = re.compile(r"^(?P<indent> *)(?P<marks>(?:(?:abbrev|unfoldable|pub|record|data) )*)(?P<name>[A-Za-z][\w'-]*)(?: [^:\n=]*)? : (?P<type>.*)$", re.M)
 
 # Words that would fall together with another: their spelling is chosen.
-CHOSEN = {"bit-and": "bit_of_and", "bit-or": "bit_of_or", "bit-xor": "bit_of_xor", "gate-of": "gate_statement", "same-sort": "sort_same"}
+CHOSEN = {"bit-and": "bit_of_and", "bit-or": "bit_of_or", "bit-xor": "bit_of_xor", "gate-of": "gate_statement", "getD-low": "get_or_low", "same-sort": "sort_same"}
 
 
 def files(*ends):

@@ -39,14 +39,14 @@ level_same ts us (Input j) same = refl
 level_same ts us (Gate g) same = ap (λ n. 1 + n) (under_same ts us g.count g.pins same)
 
 -- no level in a table is above its highest, so a line's is at most one above
-get_d_low : (ts : List ℕ) (p : ℕ) → get_or ts p 0 ≤ highest ts
-get_d_low [] p = omega arith
-get_d_low (t ∷ ts) zero = omega arith
-get_d_low (t ∷ ts) (suc p) = omega (arith, get_d_low ts p)
+get_or_low : (ts : List ℕ) (p : ℕ) → get_or ts p 0 ≤ highest ts
+get_or_low [] p = omega arith
+get_or_low (t ∷ ts) zero = omega arith
+get_or_low (t ∷ ts) (suc p) = omega (arith, get_or_low ts p)
 
 pub under_low : (ts ps : List ℕ) → highest (under ts ps) ≤ highest ts
 under_low ts [] = omega arith
-under_low ts (p ∷ ps) = omega (arith, get_d_low ts p, under_low ts ps)
+under_low ts (p ∷ ps) = omega (arith, get_or_low ts p, under_low ts ps)
 
 pub level_low : (ts : List ℕ) (l : Line) → level_of ts l ≤ highest ts + 1
 level_low ts (Input j) = omega arith

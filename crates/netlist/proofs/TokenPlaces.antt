@@ -85,13 +85,13 @@ module _ (G : Place → Type 0) where
   want_place {ts} s h = cond_both (same_sort (sort_of (first ts).word) s) _ _ (Either Refused Any) (λ _. taken tt) (λ _. refused (first_place h))
 
   -- the name's token is not the end
-  abbrev Goes_on : Tok → Named → Type 0
-  Goes_on t n = Stands n × (is_end t.word ≡ false)
+  abbrev GoesOn : Tok → Named → Type 0
+  GoesOn t n = Stands n × (is_end t.word ≡ false)
 
-  want_name_place : {ts : List Tok} → Fine ts → Either Refused (Goes_on (first ts)) (want_name (first ts))
+  want_name_place : {ts : List Tok} → Fine ts → Either Refused (GoesOn (first ts)) (want_name (first ts))
   want_name_place {ts} h =
       let t = first ts in
-      cond_both (same_sort (sort_of t.word) Name) _ _ (Either Refused (Goes_on t)) (λ e. taken (first_place h, not_last t.word Name e)) (λ _. refused (first_place h))
+      cond_both (same_sort (sort_of t.word) Name) _ _ (Either Refused (GoesOn t)) (λ e. taken (first_place h, not_last t.word Name e)) (λ _. refused (first_place h))
 
   one_name_place : {ts : List Tok} → Fine ts → Either Refused Stands (one_name ts)
   one_name_place h =
