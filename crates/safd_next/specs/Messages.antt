@@ -6,13 +6,13 @@ use Rattle.circuit.specs.Refusals.{number_of, word_of, place_of}
 use Rattle.circuit.specs.Shape.{inputs_in}
 use Rattle.circuit.specs.Survey.{gates_of, depth_of}
 use Rattle.circuit.specs.declared.kinds.Kind.{Kind}
-use Rattle.circuit.specs.declared.refusals.Place.{Place}
-use Rattle.circuit.specs.declared.refusals.At.{At}
-use Rattle.circuit.specs.declared.refusals.At.TheVariants.{Number, Text}
 use Rattle.circuit.specs.declared.refusals.Refusal.{Refusal}
-use Rattle.textfiles.specs.Flaws.{sentence_of as flaw-sentence}
+use Rattle.circuit.specs.declared.refusals.Refusal.TheVariants.{Misform, NoKind, WrongPins, UnknownPin, UnknownOutput, Redriven, LongText, LongName, ManyLines, ManyInputs, ManyOutputs, NoInput, NoOutput}
+use Rattle.simulation.specs.Refusals.{number_of as unfit_number, word_of as unfit_word, place_of as unfit_place}
+use Rattle.simulation.specs.declared.refusals.Unfit.{Unfit}
+use Rattle.simulation.specs.declared.refusals.Unfit.TheVariants.{Stray, Short}
+use Rattle.textfiles.specs.Flaws.{sentence_of as flaw_sentence}
 use Rattle.textfiles.specs.declared.flaws.Flaw.{Flaw}
-use Rattle.circuit.specs.declared.refusals.Refusal.TheVariants.{Misform, NoKind, WrongPins, UnknownPin, UnknownOutput, Redriven, LongText, LongName, ManyLines, ManyInputs, ManyOutputs, NoInput, NoOutput, Stray, Short}
 
 -- a refusal in a sentence
 abbrev pub sentence_of : Refusal → List ℕ
@@ -29,30 +29,27 @@ sentence_of (ManyInputs p) = codes "the circuit has more than 64 inputs"
 sentence_of (ManyOutputs p) = codes "the circuit has more than 63 outputs"
 sentence_of NoInput = codes "the circuit has no input"
 sentence_of NoOutput = codes "the circuit has no output"
-sentence_of (Stray n) = codes "the vector has a bit past the inputs"
-sentence_of (Short n) = codes "a table is too short"
 
--- a refusal at a place in a file: file, line and column, number, word and sentence
-abbrev pub text_line : List ℕ → Place → Refusal → List ℕ
-text_line file p r =
-    file ++ (codes ":" ++ (decimal p.line ++ (codes ":" ++ (decimal p.column
+-- file, line and column, number, word and sentence
+abbrev pub refusal_line : List ℕ → Refusal → List ℕ
+refusal_line file r =
+    file ++ (codes ":" ++ (decimal (place_of r).line ++ (codes ":" ++ (decimal (place_of r).column
     ++ (codes ": refusal " ++ (decimal (number_of r) ++ (codes ", " ++ (word_of (number_of r) ++ (codes ": " ++ sentence_of r)))))))))
 
--- a refusal whose place is one number
-abbrev pub number_line : List ℕ → ℕ → Refusal → List ℕ
-number_line name n r =
-    name ++ (codes ": refusal " ++ (decimal (number_of r) ++ (codes ", " ++ (word_of (number_of r) ++ (codes " at " ++ (decimal n ++ (codes ": " ++ sentence_of r)))))))
+-- why a vector is not simulated, in a sentence
+abbrev pub unfit_sentence : Unfit → List ℕ
+unfit_sentence (Stray n) = codes "the vector has a bit past the inputs"
+unfit_sentence (Short n) = codes "a table is too short"
 
-abbrev pub line_at : List ℕ → Refusal → At → List ℕ
-line_at file r (Text p) = text_line file p r
-line_at file r (Number n) = number_line (codes "safd") n r
-
-abbrev pub refusal_line : List ℕ → Refusal → List ℕ
-refusal_line file r = line_at file r (place_of r)
+-- number, word, the bit or the length, and sentence
+abbrev pub unfit_line : Unfit → List ℕ
+unfit_line u =
+    codes "safd: refusal " ++ (decimal (unfit_number u) ++ (codes ", " ++ (unfit_word u ++ (codes " at " ++ (decimal (unfit_place u)
+    ++ (codes ": " ++ unfit_sentence u))))))
 
 -- what is wrong with a text: file, line and column, and a sentence
 abbrev pub flaw_line : List ℕ → Flaw → List ℕ
-flaw_line file f = file ++ (codes ":" ++ (decimal f.place.line ++ (codes ":" ++ (decimal f.place.column ++ (codes ": " ++ flaw-sentence f.what)))))
+flaw_line file f = file ++ (codes ":" ++ (decimal f.place.line ++ (codes ":" ++ (decimal f.place.column ++ (codes ": " ++ flaw_sentence f.what)))))
 
 -- how many of each a circuit has
 abbrev pub sizes : Plan → List ℕ

@@ -1,5 +1,6 @@
 // safd: stuck-at fault dictionaries.
 #![tactic(auto)]
+
 mod commands;
 mod messages;
 mod timing;
@@ -7,7 +8,7 @@ mod timing;
 use anyhow::anyhow;
 use circuit::{Circuit, Fault, Kind, MAX_LINES, Site};
 use commands::{Command, USAGE, parse};
-use messages::{flaw_line, kind_line, refusal_line, sizes};
+use messages::{flaw_line, kind_line, refusal_line, sizes, unfit_line};
 use method::{Deductive, Parallel};
 use netlist::read;
 use simulation::{Listed, machine_word};
@@ -152,8 +153,8 @@ fn print_log(
             Ok(word) => {
                 rt.println(log_line(heap, *vector, circuit.inputs(), word, circuit.outputs())?)?;
             }
-            Err(refusal) => {
-                rt.eprintln(refusal_line(heap, "", refusal)?)?;
+            Err(unfit) => {
+                rt.eprintln(unfit_line(heap, unfit)?)?;
                 return Err(anyhow!("refused"));
             }
         }

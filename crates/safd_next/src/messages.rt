@@ -1,9 +1,10 @@
-// What the program says of a circuit or of a refusal.
+// What the program says of a circuit, of a refusal or of a flaw in a text.
 ghost use Rattle.std.specs.Prelude.{◌≡◌, IfOk, string_bytes};
 ghost use Rattle.circuit.specs.Plans.{plan};
-ghost use Rattle.safd_next.specs.Messages.{sentence_of, text_line, number_line, refusal_line, flaw_line, sizes, kind_line};
+ghost use Rattle.safd_next.specs.Messages.{sentence_of, refusal_line, unfit_sentence, unfit_line, flaw_line, sizes, kind_line};
 
-use circuit::{At, Circuit, Kind, Place, Refusal};
+use circuit::{Circuit, Kind, Place, Refusal};
+use simulation::Unfit;
 use std::alloc::{AllocError, Global};
 use textfiles::Flaw;
 
@@ -25,45 +26,39 @@ pub(crate) fn sentence(refusal: Refusal) -> &'static str
         Refusal::ManyOutputs(_) => "the circuit has more than 63 outputs",
         Refusal::NoInput => "the circuit has no input",
         Refusal::NoOutput => "the circuit has no output",
-        Refusal::Stray(_) => "the vector has a bit past the inputs",
-        Refusal::Short(_) => "a table is too short",
     }
 }
 
-// A refusal at a place in a file.
-fn text_line(heap: Global, file: &str, place: Place, refusal: Refusal) -> Result<String, AllocError>
-    ensures { IfOk result (λ s. string_bytes s ≡ text_line file.now place refusal) }
+// Where a netlist was refused, and why.
+pub(crate) fn refusal_line(heap: Global, file: &str, refusal: Refusal) -> Result<String, AllocError>
+    ensures { IfOk result (λ s. string_bytes s ≡ refusal_line file.now refusal) }
 {
-    let Place { line, column } = place;
+    let Place { line, column } = refusal.place();
     let number = refusal.number();
     let word = refusal.word();
     let sentence = sentence(refusal);
     format!(in heap; "{file}:{line}:{column}: refusal {number}, {word}: {sentence}")
 }
 
-// A refusal whose place is one number, found by the program `name`.
-fn number_line(
-    heap: Global,
-    name: &str,
-    place: usize,
-    refusal: Refusal,
-) -> Result<String, AllocError>
-    ensures { IfOk result (λ s. string_bytes s ≡ number_line name.now place refusal) }
+// Why a vector is not simulated, in a sentence.
+pub(crate) fn unfit_sentence(unfit: Unfit) -> &'static str
+    ensures { result.now ≡ unfit_sentence unfit }
 {
-    let number = refusal.number();
-    let word = refusal.word();
-    let sentence = sentence(refusal);
-    format!(in heap; "{name}: refusal {number}, {word} at {place}: {sentence}")
+    match unfit {
+        Unfit::Stray(_) => "the vector has a bit past the inputs",
+        Unfit::Short(_) => "a table is too short",
+    }
 }
 
-// Where something was refused, and why.
-pub(crate) fn refusal_line(heap: Global, file: &str, refusal: Refusal) -> Result<String, AllocError>
-    ensures { IfOk result (λ s. string_bytes s ≡ refusal_line file.now refusal) }
+// The bit or the length at which a vector is not simulated, and why.
+pub(crate) fn unfit_line(heap: Global, unfit: Unfit) -> Result<String, AllocError>
+    ensures { IfOk result (λ s. string_bytes s ≡ unfit_line unfit) }
 {
-    match refusal.place() {
-        At::Text(place) => text_line(heap, file, place, refusal),
-        At::Number(place) => number_line(heap, "safd", place, refusal),
-    }
+    let number = unfit.number();
+    let word = unfit.word();
+    let place = unfit.place();
+    let sentence = unfit_sentence(unfit);
+    format!(in heap; "safd: refusal {number}, {word} at {place}: {sentence}")
 }
 
 // Where a text is not read, and why.

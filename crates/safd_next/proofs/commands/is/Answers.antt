@@ -6,5 +6,5 @@ use Rattle.safd_next.proofs.commands.is.Goals as goal
 
 pub returns : goal.returns
 returns c =
-    same_from_decides _ _ (slice_eq-Decides Decides-eqb _ _ _ c.eq.ensures) (bytes_eq-Decides c.as-bytes.result.now c.as-bytes-2.result.now)
-    ∙ (λ i. bytes_eq (c.as-bytes.ensures.value i) (c.as-bytes-2.ensures.value i))
+    same_from_decides _ _ (slice_eq-Decides Decides-eqb _ _ _ c.eq.ensures) (bytes_eq-Decides c.as_bytes.result.now c.as_bytes-2.result.now)
+    ∙ (λ i. bytes_eq (c.as_bytes.ensures.value i) (c.as_bytes-2.ensures.value i))

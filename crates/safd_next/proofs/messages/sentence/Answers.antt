@@ -40,6 +40,3 @@ returns-in-NoInput c = ap sentence_of (sym c.in-NoInput.is)
 
 pub returns-in-NoOutput : goal.returns-in-NoOutput
 returns-in-NoOutput c = ap sentence_of (sym c.in-NoOutput.is)
-
-pub returns-in-Stray : goal.returns-in-Stray
-returns-in-Stray c = ap sentence_of (sym c.in-Stray.is)
