@@ -23,10 +23,10 @@ said : (c : After-new-scanner) → statement_of (toks c.new-scanner.result) ≡ 
 said c = ap statement_of (c.new-scanner.ensures.tokens ∙ ap (line_tokens c.loop-rest.line) (c.split_at.ensures.front ∙ ap (λ n. take n c.loop-rest.rest.now) c.line_len.ensures.run))
 
 pub returns-in_err-statement : goal.returns-in_err-statement
-returns-in_err-statement c =
-    let b = (goal.at.returns-in_err-statement c).After-new-scanner in
-    let p = err_from_is_err_and c.from_residual.result c.from_residual.ensures.1 in
-    rw (p.1, p.2) (sym (no_statement c.args.pass c.loop-rest.line (state (plan_of c.loop-rest.draft) c.loop-rest.asked) c.loop-rest.rest.now (some b) _ (c.in_err-statement.ensures.value ∙ said b)) ∙ c.loop-rest.invariant.0)
+returns-in_err-statement k =
+    let b = (goal.at.returns-in_err-statement k).After-new-scanner in
+    let p = err_from_is_err_and k.from_residual.result k.from_residual.ensures.1 in
+    rw (p.1, p.2) (sym (no_statement k.args.pass k.loop-rest.line (state (plan_of k.loop-rest.draft) k.loop-rest.asked) k.loop-rest.rest.now (some b) _ (k.in_err-statement.ensures.value ∙ said b)) ∙ k.loop-rest.invariant.0)
 
 pub returns-in_err-asked : goal.returns-in_err-asked
 returns-in_err-asked c =
