@@ -1,4 +1,4 @@
-// Why a call declines: one enum for every layer, so that a refusal rises unchanged.
+// Why a netlist is refused: one enum for each layer of its reading, so that a refusal rises unchanged.
 ghost use Rattle.std.specs.Prelude.{◌≡◌};
 ghost use Rattle.circuit.specs.Refusals.{number_of, word_of, place_of, layer_of};
 
