@@ -2,30 +2,21 @@
 // The output is held to what a second reader, written apart, says of the same files.
 #![tactic(auto)]
 
-use anyhow::anyhow;
-use circuit::{Circuit, Layer, Line, Place, Refusal};
+use circuit::{Circuit, Line, Refusal};
 use netlist::read;
+use std::rt::Files;
 use std::str::from_utf8;
 use std::{env, fs};
 
 // Circuits of at most so many lines are printed whole.
 const SMALL: usize = 16;
 
-fn print_name(rt: &HostRuntime, circuit: &Circuit, number: usize) -> anyhow::Result<()> {
-    let Some(name) = circuit.name(number) else {
-        return Err(anyhow!("a line without a name"));
-    };
-    let text = from_utf8(name.bytes())?;
-    print!(rt; "  {number} {text} ")?;
-    Ok(())
-}
-
-fn print_line(rt: &HostRuntime, line: Line) -> anyhow::Result<()> {
+fn print_line(rt: &impl Print, line: Line) -> anyhow::Result<()> {
     match line {
         Line::Input(number) => println!(rt; "INPUT {number}")?,
         Line::Gate(gate) => {
-            rt.print(gate.kind.word())?;
-            for pin in gate.pins.iter().take(gate.count as usize) {
+            rt.print(gate.kind)?;
+            for pin in gate.pins.as_slice() {
                 print!(rt; " {pin}")?;
             }
             println!(rt)?;
@@ -35,36 +26,35 @@ fn print_line(rt: &HostRuntime, line: Line) -> anyhow::Result<()> {
 }
 
 // Every line with its name, kind and pins, then the lines that the outputs show.
-fn print_circuit(rt: &HostRuntime, circuit: &Circuit) -> anyhow::Result<()> {
-    for number in 0..circuit.lines() {
-        if let Some(line) = circuit.line(number) {
-            print_name(rt, circuit, number)?;
-            print_line(rt, line)?;
-        }
+fn print_circuit(rt: &impl Print, circuit: &Circuit) -> anyhow::Result<()> {
+    let draft = &circuit.draft;
+    for (number, (line, name)) in draft.lines.iter().zip(&draft.names).enumerate() {
+        let text = from_utf8(name.bytes())?;
+        print!(rt; "  {number} {text} ")?;
+        print_line(rt, *line)?;
     }
     rt.print("  shows")?;
-    for number in 0..circuit.outputs() {
-        if let Some(line) = circuit.output(number) {
-            print!(rt; " {line}")?;
-        }
+    for line in &draft.outputs {
+        print!(rt; " {line}")?;
     }
     println!(rt)?;
     Ok(())
 }
 
-fn print_refusal(rt: &HostRuntime, file: &str, refusal: Refusal) -> anyhow::Result<()> {
-    let Place { line, column } = refusal.place();
+fn print_refusal(rt: &impl Print, file: &str, refusal: Refusal) -> anyhow::Result<()> {
+    let place = refusal.place();
     let number = refusal.number();
     let word = refusal.word();
-    let layer = match refusal.layer() {
-        Layer::Statement => "statement",
-        Layer::Netlist => "netlist",
-    };
-    println!(rt; "{file}: refusal {number}, {word}, at {line}:{column}, {layer}")?;
+    let layer = refusal.layer();
+    println!(rt; "{file}: refusal {number}, {word}, at {place}, {layer}")?;
     Ok(())
 }
 
-fn try_file(rt: &HostRuntime, circuit: &mut Circuit, file: &str) -> anyhow::Result<()> {
+fn try_file(
+    rt: &(impl Files + Print + AllocGlobal),
+    circuit: &mut Circuit,
+    file: &str,
+) -> anyhow::Result<()> {
     let text = fs::read(rt, file)?;
     if let Err(refusal) = read(text.as_slice(), circuit) {
         return print_refusal(rt, file, refusal);
@@ -94,7 +84,7 @@ fn main(rt: HostRuntime) -> anyhow::Result<()> {
 #[cfg(test)]
 mod tests {
     use super::*;
-    use circuit::Site;
+    use circuit::{Place, Site};
     use std::test::Fail;
 
     const CARD: &[u8] = b"INPUT(a)\nINPUT(b)\nOUTPUT(y)\ny = NAND(a, b)\n";

@@ -1,7 +1,9 @@
 -- What a search for a name finds.
-use Rattle.std.proofs.Common.{◌≡◌, ℕ, zero, suc, ◌+◌, ◌<◌, false, List, [], ◌∷◌, length, get_or, Some, None, sym, refl, ap, ◌∙◌, ⊎_elim, arith}
+use Rattle.std.proofs.Common.{◌≡◌, ℕ, zero, suc, ◌+◌, ◌<◌, false, List, [], ◌∷◌, length, get_or, Some, None, Option, sym, refl, ap, ◌∙◌, ⊎_elim, arith}
 use Rattle.std.proofs.lemmas.Slice.Eq.{bytes_eq-Decides}
 use Rattle.std.proofs.lemmas.Bool.{cases_Bool, cond-true, cond-false, both_ways}
+use Rattle.std.specs.List.{AllWithin, HoldsAt}
+use Rattle.std.specs.Option.{MatchOption}
 use Rattle.std.specs.Str.{bytes_eq}
 use Rattle.circuit.specs.Names.{find, find_from}
 
@@ -51,3 +53,8 @@ found_at l ns w e = let r = found_from 0 l ns w e in let h : r.0 ≡ l = omega a
 
 pub none_at : (ns : List (List ℕ)) (w : List ℕ) → find ns w ≡ None → (k : ℕ) → k < length ns → get_or ns k [] ≡ w → ⊥
 none_at ns w e k = none_from 0 k ns w e
+
+-- no name is the word, or the first that is it stands at i
+pub find_from_first : (ns : List (List ℕ)) (w : List ℕ) (r : Option ℕ) → MatchOption r (AllWithin (λ n. n ≡ w → ⊥) ns 0 (length ns)) (λ i. (i < length ns) × HoldsAt (λ n. n ≡ w) ns i × AllWithin (λ n. n ≡ w → ⊥) ns 0 i) → r ≡ find ns w
+find_from_first ns w None h = sym (find_none ns w (λ k lt. h k [] (omega arith) lt))
+find_from_first ns w (Some i) h = sym (find_at i ns w h.0 (h.1 []) (λ k lt. h.2 k [] (omega arith) lt))

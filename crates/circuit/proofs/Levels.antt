@@ -1,42 +1,50 @@
--- A count of gates one line on; the levels of a circuit's lines.
-use Rattle.std.proofs.Common.{◌≡◌, ℕ, zero, suc, ◌+◌, ◌<◌, ◌≤◌, max, Bool, cond, List, [], ◌∷◌, ◌++◌, length, get_or, take, drop, sym, refl, ap, ◌∙◌, add-zero, zero-add, arith}
-use Rattle.std.proofs.lemmas.List.{at_drop_more, get_or_append_left, get_or_push, get_or-take, length_push}
-use Rattle.circuit.specs.Shape.{blank, pin_count, pin_from, Fed}
-use Rattle.circuit.specs.Survey.{is_of, gates_of, highest, under, level_of, levels_from, levels, Levelled}
-use Rattle.circuit.specs.declared.kinds.Kind.{Kind}
+-- The levels of a circuit's lines.
+use Rattle.std.proofs.Common.{◌≡◌, ℕ, zero, suc, ◌+◌, ◌<◌, ◌≤◌, max, fold, List, [], ◌∷◌, ◌++◌, length, get_or, drop, unwrap_or, sym, refl, ap, ◌∙◌, add-zero, subst, zero-add, arith}
+use Rattle.std.proofs.lemmas.List.{at_drop_more, get_or_append_left, get_or_default, get_or_push, length_push}
+use Rattle.std.proofs.lemmas.Grind.{get_or_default_zero}
+use Rattle.circuit.specs.Shape.{blank, pin_count, pin_from, pins_of, Fed}
+use Rattle.circuit.specs.Survey.{highest, under, level_of, levels_from, levels, Levelled}
+use Rattle.std.specs.List.{All, reduce}
+use Rattle.circuit.specs.declared.lines.Gate.{Gate as GateT}
 use Rattle.circuit.specs.declared.lines.Line.{Line}
 use Rattle.circuit.specs.declared.lines.Line.TheVariants.{Input, Gate}
 
--- the gates of a kind among what is left, one line on
-pub gates_step : (k : Kind) (ls : List Line) (i : ℕ) (d : Line) (b : Bool) → i < length ls → b ≡ is_of k (get_or ls i d) → gates_of k (drop i ls) ≡ cond b (suc (gates_of k (drop (i + 1) ls))) (gates_of k (drop (i + 1) ls))
-gates_step k ls i d b h t =
-    at_drop_more (gates_of k) ls i d h
-    ∙ ap (λ v. cond v (suc (gates_of k (drop (i + 1) ls))) (gates_of k (drop (i + 1) ls))) (sym t)
+-- the largest by a fold
+fold_max : (a : ℕ) (xs : List ℕ) → fold max a xs ≡ max a (highest xs)
+fold_max a [] = omega arith
+fold_max a (x ∷ xs) = omega (arith, fold_max (max a x) xs)
 
--- the highest level at the pins that are left of the first n, one pin on
-pub highest_step : (ts ps : List ℕ) (n i : ℕ) → i < n → i < length (take n ps) → highest (under ts (drop i (take n ps))) ≡ max (get_or ts (get_or ps i 0) 0) (highest (under ts (drop (i + 1) (take n ps))))
-highest_step ts ps n i lt h =
-    at_drop_more (λ qs. highest (under ts qs)) (take n ps) i 0 h
-    ∙ ap (λ p. max (get_or ts p 0) (highest (under ts (drop (i + 1) (take n ps))))) (get_or-take n ps i 0 lt)
+pub highest_reduce : (xs : List ℕ) → unwrap_or (reduce max xs) 0 ≡ highest xs
+highest_reduce [] = refl
+highest_reduce (x ∷ xs) = fold_max x xs
 
 -- one number more at the end
 pub highest_push : (xs : List ℕ) (x : ℕ) → highest (xs ++ x ∷ []) ≡ max (highest xs) x
 highest_push [] x = omega arith
 highest_push (y ∷ xs) x = omega (arith, highest_push xs x)
 
--- two tables that agree at the first n pins have one highest level there
-under_same : (ts us : List ℕ) (n : ℕ) (ps : List ℕ) → ((p : ℕ) → p < n → get_or ts (get_or ps p 0) 0 ≡ get_or us (get_or ps p 0) 0) → highest (under ts (take n ps)) ≡ highest (under us (take n ps))
-under_same ts us zero ps same = refl
-under_same ts us (suc n) [] same = refl
-under_same ts us (suc n) (p ∷ ps) same =
+-- a line that is read at a place, at the default that clauses write
+pub line_at : (ls ms : List Line) (i : ℕ) (l : Line) → i < length ms → ms ≡ ls → l ≡ get_or ms i l → get_or ls i blank ≡ l
+line_at ls ms i l here same read = ap (λ ks. get_or ks i blank) (sym same) ∙ get_or_default ms i blank l here ∙ sym read
+
+-- a gate's pins are fed by the lines before it
+pub fed_at : (ls : List Line) (i : ℕ) (g : GateT) → Fed ls → i < length ls → get_or ls i blank ≡ Gate g → All (λ p. p < i) (pins_of (Gate g))
+fed_at ls i g fed here is k d lt =
+    let below = subst (λ l. k < pin_count l → pin_from l k < i) is (fed i k here) lt in
+    omega (arith, below, get_or_default_zero g.pins k d lt)
+
+-- two tables that agree at the pins have one highest level there
+under_same : (ts us ps : List ℕ) → ((p : ℕ) → p < length ps → get_or ts (get_or ps p 0) 0 ≡ get_or us (get_or ps p 0) 0) → highest (under ts ps) ≡ highest (under us ps)
+under_same ts us [] same = refl
+under_same ts us (p ∷ ps) same =
     let e = same 0 (omega arith) in
-    let r = under_same ts us n ps (λ q l. same (suc q) (omega arith)) in
+    let r = under_same ts us ps (λ q l. same (suc q) (omega arith)) in
     omega arith
 
 -- two tables that agree at a line's pins give it one level
 level_same : (ts us : List ℕ) (l : Line) → ((p : ℕ) → p < pin_count l → get_or ts (pin_from l p) 0 ≡ get_or us (pin_from l p) 0) → level_of ts l ≡ level_of us l
 level_same ts us (Input j) same = refl
-level_same ts us (Gate g) same = ap (λ n. 1 + n) (under_same ts us g.count g.pins same)
+level_same ts us (Gate g) same = ap (λ n. 1 + n) (under_same ts us g.pins same)
 
 -- no level in a table is above its highest, so a line's is at most one above
 get_or_low : (ts : List ℕ) (p : ℕ) → get_or ts p 0 ≤ highest ts
@@ -50,7 +58,7 @@ under_low ts (p ∷ ps) = omega (arith, get_or_low ts p, under_low ts ps)
 
 pub level_low : (ts : List ℕ) (l : Line) → level_of ts l ≤ highest ts + 1
 level_low ts (Input j) = omega arith
-level_low ts (Gate g) = omega (arith, under_low ts (take g.count g.pins))
+level_low ts (Gate g) = omega (arith, under_low ts g.pins)
 
 -- the levels of what is left, one line on
 pub levels_step : (ts us : List ℕ) (ls : List Line) (i v : ℕ) → i < length ls → v ≡ level_of ts (get_or ls i blank) → us ≡ ts ++ v ∷ [] → levels_from us (drop (i + 1) ls) ≡ levels_from ts (drop i ls)

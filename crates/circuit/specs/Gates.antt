@@ -1,5 +1,7 @@
 -- The words for the kinds of gate, how many pins a gate may have, and what it answers.
-use Rattle.std.specs.Prelude.{ℕ, Bool, true, false, not, ◌&&◌, ◌||◌, List, [], ◌∷◌, codes, nat_le, slice_index_or}
+use Rattle.std.specs.Prelude.{ℕ, ◌+◌, Bool, true, false, cond, not, ◌&&◌, ◌||◌, List, [], ◌∷◌, length, Some, None, codes, Option, Result, nat_le, ◌==◌, slice_index, slice_index_or}
+use Rattle.std.specs.Option.{ok_or}
+use Rattle.circuit.specs.declared.kinds.UnknownKind.{UnknownKind}
 use Rattle.circuit.specs.declared.kinds.Kind.{Kind}
 use Rattle.circuit.specs.declared.kinds.Kind.TheVariants.{And, Nand, Or, Nor, Xor, Xnor, Not, Buff}
 
@@ -12,6 +14,30 @@ kind_word Xor = codes "XOR"
 kind_word Xnor = codes "XNOR"
 kind_word Not = codes "NOT"
 kind_word Buff = codes "BUFF"
+
+-- w has the bytes bs from place i on, and no others after
+abbrev pub spells : List ℕ → ℕ → List ℕ → Bool
+spells w i [] = length w == i
+spells w i (b ∷ bs) = slice_index w i == b && spells w (i + 1) bs
+
+abbrev pub kind_of : List ℕ → Option Kind
+kind_of w =
+    cond (spells w 0 (codes "AND")) (Some And) (
+    cond (spells w 0 (codes "NAND")) (Some Nand) (
+    cond (spells w 0 (codes "OR")) (Some Or) (
+    cond (spells w 0 (codes "NOR")) (Some Nor) (
+    cond (spells w 0 (codes "XOR")) (Some Xor) (
+    cond (spells w 0 (codes "XNOR")) (Some Xnor) (
+    cond (spells w 0 (codes "NOT")) (Some Not) (
+    cond (spells w 0 (codes "BUFF")) (Some Buff) None)))))))
+
+-- the kind that a word names, or that it names none
+abbrev pub kind_read : List ℕ → Result Kind UnknownKind
+kind_read w = ok_or (kind_of w) (record {})
+
+-- what is said of a word that names none
+abbrev pub unknown_kind : List ℕ
+unknown_kind = codes "the word names no kind of gate"
 
 -- NOT and BUFF have one pin, the others two to four
 abbrev pub least : Kind → ℕ

@@ -1,5 +1,5 @@
--- The register of refusals: number, word, place and layer of each.
-use Rattle.std.specs.Prelude.{ℕ, Bool, true, false, cond, List, codes, ◌==◌}
+-- The register of refusals: number, word, place, layer and sentence of each, and how places and layers print.
+use Rattle.std.specs.Prelude.{ℕ, Bool, true, false, cond, List, ◌++◌, codes, decimal, ◌==◌}
 use Rattle.circuit.specs.declared.refusals.Place.{Place}
 use Rattle.circuit.specs.declared.refusals.Layer.{Layer}
 use Rattle.circuit.specs.declared.refusals.Layer.TheVariants.{Statement, Netlist}
@@ -82,3 +82,27 @@ of_text (ManyInputs p) = false
 of_text (ManyOutputs p) = false
 of_text NoInput = true
 of_text NoOutput = true
+
+-- line and column
+abbrev pub place_text : Place → List ℕ
+place_text p = decimal p.line ++ (codes ":" ++ decimal p.column)
+
+abbrev pub layer_word : Layer → List ℕ
+layer_word Statement = codes "statement"
+layer_word Netlist = codes "netlist"
+
+-- a refusal in a sentence
+abbrev pub sentence_of : Refusal → List ℕ
+sentence_of (Misform p) = codes "a token does not fit, or the line ends early"
+sentence_of (NoKind p) = codes "the kind is none of AND, NAND, OR, NOR, XOR, XNOR, NOT, BUFF"
+sentence_of (WrongPins p) = codes "NOT and BUFF have one pin, the other kinds two to four"
+sentence_of (UnknownPin p) = codes "the pin names no earlier line"
+sentence_of (UnknownOutput p) = codes "the output names no line"
+sentence_of (Redriven p) = codes "the line exists already"
+sentence_of LongText = codes "the text has more than 65536 bytes"
+sentence_of (LongName p) = codes "the name has more than 16 bytes"
+sentence_of (ManyLines p) = codes "the circuit has more than 1024 lines"
+sentence_of (ManyInputs p) = codes "the circuit has more than 64 inputs"
+sentence_of (ManyOutputs p) = codes "the circuit has more than 63 outputs"
+sentence_of NoInput = codes "the circuit has no input"
+sentence_of NoOutput = codes "the circuit has no output"

@@ -1,5 +1,5 @@
 -- What makes lists of lines, names and outputs a circuit.
-use Rattle.std.specs.Prelude.{◌≡◌, ℕ, suc, ◌-◌, ◌<◌, ◌≤◌, Bool, true, false, cond, List, [], ◌∷◌, ◌++◌, length, take, replicate, ◌≢◌, slice_index, slice_index_or}
+use Rattle.std.specs.Prelude.{◌≡◌, ℕ, suc, ◌<◌, ◌≤◌, Bool, true, false, cond, List, [], ◌∷◌, length, take, ◌≢◌, slice_index, slice_index_or}
 use Rattle.circuit.specs.Gates.{least, most}
 use Rattle.circuit.specs.declared.kinds.Kind.{Kind}
 use Rattle.circuit.specs.declared.lines.Gate.{Gate as GateT}
@@ -21,7 +21,7 @@ input_at (Gate g) = 0
 
 abbrev pub pin_count : Line → ℕ
 pin_count (Input j) = 0
-pin_count (Gate g) = g.count
+pin_count (Gate g) = length g.pins
 
 -- the line that feeds pin p
 abbrev pub pin_from : Line → ℕ → ℕ
@@ -36,26 +36,14 @@ abbrev pub most_pins : Line → ℕ
 most_pins (Input j) = 0
 most_pins (Gate g) = most g.kind
 
--- four places for pins, 0 past the last pin
-abbrev pub padded : List ℕ → List ℕ
-padded ps = ps ++ replicate (4 - length ps) 0
-
 -- the gate of a kind with these pins
 abbrev pub gate_of : Kind → List ℕ → GateT
-gate_of k ps = record { kind = k; pins = padded ps; count = length ps }
+gate_of k ps = record { kind = k; pins = ps }
 
 -- the lines that feed a gate's pins, in order
 abbrev pub pins_of : Line → List ℕ
 pins_of (Input j) = []
-pins_of (Gate g) = take g.count g.pins
-
-abbrev pub places : Line → List ℕ
-places (Input j) = []
-places (Gate g) = g.pins
-
-abbrev pub filled : Line → List ℕ
-filled (Input j) = []
-filled (Gate g) = padded (take g.count g.pins)
+pins_of (Gate g) = g.pins
 
 -- how many of the lines are inputs
 abbrev pub inputs_in : List Line → ℕ
@@ -66,10 +54,6 @@ inputs_in (l ∷ ls) = cond (is_input l) (suc (inputs_in ls)) (inputs_in ls)
 abbrev pub Counted : List Line → Type 0
 Counted ls = (i : ℕ) → i < length ls → (least_pins (slice_index_or ls i blank) ≤ pin_count (slice_index_or ls i blank)) × (pin_count (slice_index_or ls i blank) ≤ most_pins (slice_index_or ls i blank))
 
--- the places past a gate's pins hold 0
-abbrev pub Filled : List Line → Type 0
-Filled ls = (i : ℕ) → i < length ls → places (slice_index_or ls i blank) ≡ filled (slice_index_or ls i blank)
-
 -- every pin is fed by an earlier line
 abbrev pub Fed : List Line → Type 0
 Fed ls = (i p : ℕ) → i < length ls → p < pin_count (slice_index_or ls i blank) → pin_from (slice_index_or ls i blank) p < i
@@ -77,6 +61,10 @@ Fed ls = (i p : ℕ) → i < length ls → p < pin_count (slice_index_or ls i bl
 -- inputs count from 0 in the order of the lines
 abbrev pub Numbered : List Line → Type 0
 Numbered ls = (i : ℕ) → i < length ls → is_input (slice_index_or ls i blank) ≡ true → input_at (slice_index_or ls i blank) ≡ inputs_in (take i ls)
+
+-- no name has more than sixteen bytes
+abbrev pub Brief : List (List ℕ) → Type 0
+Brief ns = (i : ℕ) → i < length ns → length (slice_index_or ns i []) ≤ 16
 
 -- no two lines have one name
 abbrev pub Distinct : List (List ℕ) → Type 0

@@ -1,5 +1,5 @@
 -- How many gates of a kind a circuit has, and how deep it is.
-use Rattle.std.specs.Prelude.{◌≡◌, ℕ, suc, ◌+◌, ◌<◌, max, Bool, false, cond, List, [], ◌∷◌, ◌++◌, map, length, ◌==◌, slice_index, slice_index_or}
+use Rattle.std.specs.Prelude.{◌≡◌, ℕ, ◌+◌, ◌<◌, max, Bool, false, List, [], ◌∷◌, ◌++◌, map, length, count_by, ◌==◌, slice_index, slice_index_or}
 use Rattle.circuit.specs.Shape.{blank, pins_of, pin_count, pin_from}
 use Rattle.circuit.specs.declared.kinds.Kind.{Kind}
 use Rattle.circuit.specs.declared.kinds.Kind.TheVariants.{And, Nand, Or, Nor, Xor, Xnor, Not, Buff}
@@ -27,8 +27,7 @@ is_of k (Gate g) = same_kind g.kind k
 
 -- how many of the lines are driven by a gate of the kind
 abbrev pub gates_of : Kind → List Line → ℕ
-gates_of k [] = 0
-gates_of k (l ∷ ls) = cond (is_of k l) (suc (gates_of k ls)) (gates_of k ls)
+gates_of k ls = count_by (is_of k) ls
 
 -- the largest of the numbers; 0 where there is none
 abbrev pub highest : List ℕ → ℕ

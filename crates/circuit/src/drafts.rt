@@ -1,7 +1,6 @@
 // A circuit in the making: lines and names so far, and the outputs found.
-ghost use Rattle.std.specs.Prelude.{◌≡◌, ◌≤◌, map, vec_len, vec_capacity};
-ghost use Rattle.circuit.specs.Shape.{inputs_in, Counted, Filled, Fed, Numbered, Distinct, Shown};
-ghost use Rattle.circuit.specs.Spelled.{bytes_of};
+ghost use Rattle.std.specs.Prelude.{◌≡◌, ◌≤◌, vec_len, vec_capacity};
+ghost use Rattle.circuit.specs.Shape.{inputs_in, Counted, Fed, Numbered, Brief, Distinct, Shown};
 
 use crate::lines::Line;
 use crate::names::Name;
@@ -16,6 +15,7 @@ pub const MAX_INPUTS: usize = 64;
 pub const MAX_OUTPUTS: usize = 63;
 
 // Its fields are open to the reader that fills it: the facts below hold at each step, whoever writes.
+// Lines and names are two lists, since a simulation passes over the lines alone and a search over the names alone.
 #[derive(Drop)]
 pub struct Draft {
     pub lines: Vec<Line>,
@@ -30,8 +30,8 @@ pub struct Draft {
     ghost slim: { vec_len outputs ≤ 63 },
     ghost shown: { Shown outputs.items (vec_len lines) },
     ghost counted: { Counted lines.items },
-    ghost filled: { Filled lines.items },
     ghost fed: { Fed lines.items },
     ghost numbered: { Numbered lines.items },
-    ghost distinct: { Distinct (map bytes_of names.items) },
+    ghost brief: { Brief names.items },
+    ghost distinct: { Distinct names.items },
 }

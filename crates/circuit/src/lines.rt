@@ -1,17 +1,17 @@
 // A circuit's lines: each is an input, or driven by a gate.
-#[derive(Clone, Copy)]
+use crate::kinds::Kind;
+use crate::pins::Pins;
+
+#[derive(Clone, Copy, Debug, PartialEq, Eq)]
 pub struct Gate {
     pub kind: Kind,
-    // The lines that feed the pins; 0 past the last pin.
-    pub pins: [u16; 4],
-    pub count: u8,
+    // The lines that feed the pins.
+    pub pins: Pins,
 }
 
-#[derive(Clone, Copy)]
+#[derive(Clone, Copy, Debug, PartialEq, Eq)]
 pub enum Line {
     // The input of that number.
     Input(u8),
     Gate(Gate),
 }
-
-use crate::kinds::Kind;

@@ -4,6 +4,7 @@ use lib.Bits.{bit_and, bit_or, bit_xor, and_shr, or_shr, xor_shr, and_mod, or_mo
 use lib.Pow.{ones_split, high, ones_lt}
 use Rattle.std.proofs.lemmas.Nat.{mod_below, div_below, shl-shr, pow_below}
 use Rattle.std.proofs.lemmas.Bool.{cases_order, eq-eqb, ne_eqb}
+use Rattle.std.proofs.Math.Bool.{not-not}
 use Rattle.circuit.specs.Gates.{differs, all, any, odd, gate_on}
 use Rattle.circuit.specs.Machines.{bit_of}
 use Rattle.circuit.specs.declared.kinds.Kind.{Kind}
@@ -123,10 +124,6 @@ any4 false false true d = refl
 any4 false true c d = refl
 any4 true b c d = refl
 
-not_not : (a : Bool) → not (not a) ≡ a
-not_not true = refl
-not_not false = refl
-
 odd_last : (a b : Bool) → differs a b ≡ odd (a ∷ b ∷ [])
 odd_last true true = refl
 odd_last true false = refl
@@ -135,13 +132,13 @@ odd_last false false = refl
 
 odd3 : (a b c : Bool) → differs (differs a b) c ≡ odd (a ∷ b ∷ c ∷ [])
 odd3 false b c = odd_last b c
-odd3 true true c = sym (not_not c) ∙ ap (λ x. not (not x)) (odd_last false c)
+odd3 true true c = sym (not-not c) ∙ ap (λ x. not (not x)) (odd_last false c)
 odd3 true false c = ap not (odd_last false c)
 
 odd4 : (a b c d : Bool) → differs (differs (differs a b) c) d ≡ odd (a ∷ b ∷ c ∷ d ∷ [])
 odd4 false b c d = odd3 b c d
-odd4 true true c d = odd_last c d ∙ sym (not_not (odd (c ∷ d ∷ [])))
-odd4 true false true d = sym (not_not d) ∙ ap (λ x. not (not x)) (odd_last false d)
+odd4 true true c d = odd_last c d ∙ sym (not-not (odd (c ∷ d ∷ [])))
+odd4 true false true d = sym (not-not d) ∙ ap (λ x. not (not x)) (odd_last false d)
 odd4 true false false d = ap not (odd_last false d)
 
 and4 : (a b c d l : ℕ) → bit_of (bit_and (bit_and (bit_and a b) c) d) l ≡ (((bit_of a l && bit_of b l) && bit_of c l) && bit_of d l)

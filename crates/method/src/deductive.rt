@@ -8,9 +8,6 @@ use crate::lanes::Method;
 use crate::words;
 use circuit::Kind;
 
-// The lanes beside lane 0.
-const K: usize = 64;
-
 #[derive(Clone, Copy)]
 pub struct Deductive {
     pub good: bool,
@@ -26,17 +23,15 @@ fn plain(x: Deductive) -> u64
 }
 
 impl Method for Deductive {
-    ghost count = { 64 };
+    ghost LANES = { 64 };
+
+    const LANES: usize = 64;
 
     ghost lane = { λ x l. (if nat_eq l 0 then x.good else differs x.good (bit_of x.differ (l - 1))) };
 
     ghost least = { Prim.search rules };
 
     ghost most = { Prim.search rules };
-
-    fn lanes() -> usize {
-        K
-    }
 
     fn spread(bit: bool) -> Deductive {
         Deductive {
@@ -61,7 +56,7 @@ impl Method for Deductive {
     }
 
     fn stick(self, at: usize, bit: bool) -> Deductive {
-        if at == 0 || at > K {
+        if at == 0 || at > Self::LANES {
             return self;
         }
         Deductive {
@@ -71,7 +66,7 @@ impl Method for Deductive {
     }
 
     fn look(self, at: usize) -> bool {
-        if at == 0 || at > K {
+        if at == 0 || at > Self::LANES {
             return self.good;
         }
         words::bit(self.differ, at - 1) != self.good

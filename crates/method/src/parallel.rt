@@ -6,9 +6,6 @@ use crate::lanes::Method;
 use crate::words;
 use circuit::Kind;
 
-// The lanes beside lane 0.
-const K: usize = 63;
-
 #[derive(Clone, Copy)]
 pub struct Parallel {
     // Lane l at bit l.
@@ -16,17 +13,15 @@ pub struct Parallel {
 }
 
 impl Method for Parallel {
-    ghost count = { 63 };
+    ghost LANES = { 63 };
+
+    const LANES: usize = 63;
 
     ghost lane = { λ x l. bit_of x.word l };
 
     ghost least = { Prim.search rules };
 
     ghost most = { Prim.search rules };
-
-    fn lanes() -> usize {
-        K
-    }
 
     fn spread(bit: bool) -> Parallel {
         Parallel {
@@ -41,7 +36,7 @@ impl Method for Parallel {
     }
 
     fn stick(self, at: usize, bit: bool) -> Parallel {
-        if at == 0 || at > K {
+        if at == 0 || at > Self::LANES {
             return self;
         }
         Parallel {
@@ -50,7 +45,7 @@ impl Method for Parallel {
     }
 
     fn look(self, at: usize) -> bool {
-        if at > K {
+        if at > Self::LANES {
             return words::bit(self.word, 0);
         }
         words::bit(self.word, at)

@@ -12,7 +12,7 @@ pub(crate) fn all(bit: bool) -> u64
     if bit { u64::MAX } else { 0 }
 }
 
-// A gate's answer, bit by bit.
+// A gate's answer, bit by bit. The words are no array: it would be taken apart here, and put together again in the proof.
 pub(crate) fn gate(kind: Kind, a: u64, b: u64, c: u64, d: u64) -> u64
     ensures { (l : ℕ) → l < 64 → bit_of result l ≡ gate_on kind (bit_of a l ∷ bit_of b l ∷ bit_of c l ∷ bit_of d l ∷ []) }
 {

@@ -1,69 +1,41 @@
 -- Statements that make a circuit are refused nowhere.
-use Rattle.std.proofs.Common.{◌≡◌, ℕ, ◌+◌, ◌-◌, ◌<◌, ◌≤◌, Bool, true, false, List, [], ◌∷◌, ◌++◌, map, length, get_or, take, replicate, Some, None, Ok, Result, sym, refl, ap, ◌∙◌, subst, arith}
-use Rattle.std.proofs.lemmas.List.{append_assoc, append-nil, take_at, get_or_at, get_or_append_left, length_push, length-take, length-map, length-append, length-replicate}
+use Rattle.std.proofs.Common.{◌≡◌, ℕ, ◌+◌, ◌<◌, ◌≤◌, Bool, true, false, not, List, [], ◌∷◌, ◌++◌, map, length, get_or, take, Some, None, Ok, Result, sym, refl, ap, ◌∙◌, subst, arith}
+use Rattle.std.proofs.lemmas.List.{append_assoc, append-nil, take_at, get_or_at, get_or_append_left, length_push, length-map, length-append}
 use Rattle.std.proofs.ByRecursion.{All-from_get_or}
-use Rattle.std.proofs.lemmas.Bool.{and_from, le-leb, lt-leb, le-ltb, ne_eqb, cond-true}
+use Rattle.std.proofs.lemmas.Bool.{and_from, le-leb, lt-leb, le-ltb, ne_eqb, cond-true, cond-false}
 use Rattle.std.specs.List.{AllByRecursion}
 use Rattle.circuit.specs.Gates.{fits, least, most}
 use Rattle.circuit.specs.Names.{find}
 use Rattle.circuit.specs.Plans.{Plan, Sound}
 use Rattle.circuit.specs.Shape as shape
-use Rattle.circuit.specs.Shape.{is_input, input_at, pin_count, pin_from, least_pins, most_pins, padded, gate_of, pins_of, places, filled, inputs_in}
+use Rattle.circuit.specs.Shape.{is_input, input_at, pin_count, pin_from, least_pins, most_pins, gate_of, pins_of, inputs_in}
 use Rattle.circuit.specs.declared.kinds.Kind.{Kind}
-use Rattle.circuit.specs.declared.kinds.Kind.TheVariants.{And, Nand, Or, Nor, Xor, Xnor, Not, Buff}
 use Rattle.circuit.specs.declared.lines.Gate.{Gate as GateT}
 use Rattle.circuit.specs.declared.lines.Line.{Line}
 use Rattle.circuit.specs.declared.lines.Line.TheVariants.{Input, Gate}
 use Rattle.circuit.specs.declared.refusals.Refusal.{Refusal}
 use Rattle.netlist.specs.Statements as stmt
-use Rattle.netlist.specs.Statements.{Stmt, Named, bind, unless}
-use Rattle.netlist.specs.Driving.{Fits, State, with_line, drive_input, drive_gate, show_output, drive, short_pins, resolve, long, full, many_inputs, many_outputs}
+use Rattle.texts.specs.Steps.{bind, unless}
+use Rattle.netlist.specs.Statements.{Stmt, Named}
+use Rattle.netlist.specs.Driving.{Fits, State, state, with_line, drive_input, drive_gate, show_output, drive, show, short_pins, resolve, long, full, many_inputs, many_outputs}
 use Rattle.netlist.specs.Grammar.{Said, input, output, gate, name_at, driver, drivers, drives, driving, showing}
 use Rattle.netlist.proofs.Said.{said_of, bytes_at, Fitting, start}
 use Rattle.netlist.specs.Reading.{whole}
-use Rattle.netlist.specs.declared.reading.Pass.TheVariants.{Drive, Show}
 use Rattle.netlist.proofs.TextLines.{fold, said}
 use Rattle.circuit.proofs.Found.{find_at, find_none}
 use Rattle.netlist.proofs.Drawn.{pins_below}
 use Rattle.netlist.proofs.Pushed.{inputs_append}
-use Rattle.netlist.proofs.Risen.{clash}
 
-most_four : (k : Kind) → most k ≤ 4
-most_four And = omega arith
-most_four Nand = omega arith
-most_four Or = omega arith
-most_four Nor = omega arith
-most_four Xor = omega arith
-most_four Xnor = omega arith
-most_four Not = omega arith
-most_four Buff = omega arith
+driver_fitting : (p : Plan) (n : List ℕ) (l : Line) → (least_pins l ≤ pin_count l) × (pin_count l ≤ most_pins l) → Fitting (driver p n l)
+driver_fitting p n (Input j) c = tt
+driver_fitting p n (Gate g) c =
+    let k = length g.pins in
+    subst (λ n. fits g.kind n ≡ true) (sym (length-map g.pins (name_at p))) (and_from _ _ (le-leb (least g.kind) k c.0) (le-leb k (most g.kind) c.1))
 
-length_padded : (ps : List ℕ) → 4 ≤ length (padded ps)
-length_padded ps = omega (arith, length-append ps (replicate (4 - length ps) 0), length-replicate {A = ℕ} (4 - length ps) 0)
-
--- a gate has the pins that it counts
-pins_all : (l : Line) → pin_count l ≤ most_pins l → places l ≡ filled l → length (pins_of l) ≡ pin_count l
-pins_all (Input j) m f = refl
-pins_all (Gate g) m f =
-    let ps = take g.count g.pins in
-    omega (arith, length-take g.count g.pins, ap length f, length_padded ps, most_four g.kind)
-
--- a gate is made again from its pins
-gate_again : (g : GateT) → g.count ≤ most g.kind → g.pins ≡ padded (take g.count g.pins) → gate_of g.kind (pins_of (Gate g)) ≡ g
-gate_again g m f =
-    let n = pins_all (Gate g) m f in
-    ap (λ n. record { kind = g.kind; pins = padded (pins_of (Gate g)); count = n }) n ∙ ap (λ ps. record { kind = g.kind; pins = ps; count = g.count }) (sym f)
-
-driver_fitting : (p : Plan) (n : List ℕ) (l : Line) → (least_pins l ≤ pin_count l) × (pin_count l ≤ most_pins l) → places l ≡ filled l → Fitting (driver p n l)
-driver_fitting p n (Input j) c f = tt
-driver_fitting p n (Gate g) c f =
-    let e : length (map (name_at p) (pins_of (Gate g))) ≡ g.count = length-map (pins_of (Gate g)) (name_at p) ∙ pins_all (Gate g) c.1 f in
-    subst (λ n. fits g.kind n ≡ true) (sym e) (and_from _ _ (le-leb (least g.kind) g.count c.0) (le-leb g.count (most g.kind) c.1))
-
-drivers_fitting : (p : Plan) (ns : List (List ℕ)) (ls : List Line) → AllByRecursion (λ l. (least_pins l ≤ pin_count l) × (pin_count l ≤ most_pins l)) ls → AllByRecursion (λ l. places l ≡ filled l) ls → AllByRecursion Fitting (drivers p ns ls)
-drivers_fitting p [] ls c f = tt
-drivers_fitting p (n ∷ ns) [] c f = tt
-drivers_fitting p (n ∷ ns) (l ∷ ls) c f = (driver_fitting p n l c.0 f.0, drivers_fitting p ns ls c.1 f.1)
+drivers_fitting : (p : Plan) (ns : List (List ℕ)) (ls : List Line) → AllByRecursion (λ l. (least_pins l ≤ pin_count l) × (pin_count l ≤ most_pins l)) ls → AllByRecursion Fitting (drivers p ns ls)
+drivers_fitting p [] ls c = tt
+drivers_fitting p (n ∷ ns) [] c = tt
+drivers_fitting p (n ∷ ns) (l ∷ ls) c = (driver_fitting p n l c.0, drivers_fitting p ns ls c.1)
 
 driving_fitting : (ss : List Said) → AllByRecursion Fitting (driving ss) → AllByRecursion Fitting ss
 driving_fitting [] h = tt
@@ -84,7 +56,7 @@ module _ (P : Plan) (sound : Sound P) where
   pub makes_fitting : (ss : List Said) → driving ss ≡ drivers P P.names P.lines → AllByRecursion Fitting ss
   makes_fitting ss e =
       driving_fitting ss (subst (AllByRecursion Fitting) (sym e)
-      (drivers_fitting P P.names P.lines (All-from_get_or _ P.lines shape.blank sound.counted) (All-from_get_or _ P.lines shape.blank sound.filled)))
+      (drivers_fitting P P.names P.lines (All-from_get_or _ P.lines shape.blank sound.counted)))
 
   -- the names that are driven already, and those to come
   module _ (dn rn : List (List ℕ)) (split : dn ++ rn ≡ P.names) where
@@ -104,8 +76,8 @@ module _ (P : Plan) (sound : Sound P) where
 
     pins_read : (ns : List Named) (ps : List ℕ) → map bytes_at ns ≡ map (name_at P) ps → AllByRecursion (λ i. i < length dn) ps → (short_pins ns ≡ Ok tt) × (resolve dn ns ≡ Ok ps)
     pins_read [] [] e h = (refl, refl)
-    pins_read [] (i ∷ ps) e h = clash (cc)
-    pins_read (n ∷ ns) [] e h = clash (cc)
+    pins_read [] (i ∷ ps) e h = absurd (cc)
+    pins_read (n ∷ ns) [] e h = absurd (cc)
     pins_read (n ∷ ns) (i ∷ ps) e h =
         let here : n.bytes ≡ name_at P i = cc in
         let there : map bytes_at ns ≡ map (name_at P) ps = cc in
@@ -141,7 +113,6 @@ module _ (P : Plan) (sound : Sound P) where
         let i = length dl in
         record {
           counted = subst (λ l. (least_pins l ≤ pin_count l) × (pin_count l ≤ most_pins l)) next_line (sound.counted i line_within);
-          filled = subst (λ l. places l ≡ filled l) next_line (sound.filled i line_within);
           fed = subst (λ l. (p : ℕ) → p < pin_count l → pin_from l p < i) next_line (λ p. sound.fed i p line_within);
           numbered = λ h.
               subst (λ l. is_input l ≡ true → input_at l ≡ inputs_in (take i P.lines)) next_line (sound.numbered i line_within) h
@@ -181,14 +152,14 @@ module _ (P : Plan) (sound : Sound P) where
         let short : long n ≡ false = short_by n w e (next_short dn rn w names) in
         let roomy : full q ≡ false = lt-leb 1024 (length dl) (omega arith) in
         let new : find dn n.bytes ≡ None = ap (find dn) e ∙ next_new dn rn w names in
-        rw (short, roomy, pins.0, new, pins.1, gate_again g f.counted.1 f.filled, e)
+        rw (short, roomy, pins.0, new, pins.1, e)
 
     line_input : (l : Line) (n : Named) → dl ++ l ∷ rl ≡ P.lines → input n.bytes ≡ driver P w l → drive_input (before dl dn) n ≡ Ok (with_line (before dl dn) w l)
     line_input (Input j) n lines e = let b : n.bytes ≡ w = cc in drives_input j n lines b
-    line_input (Gate g) n lines e = clash (cc)
+    line_input (Gate g) n lines e = absurd (cc)
 
     line_gate : (l : Line) (n : Named) (k : Kind) (ns : List Named) → dl ++ l ∷ rl ≡ P.lines → gate n.bytes k (map bytes_at ns) ≡ driver P w l → drive_gate (before dl dn) n k ns ≡ Ok (with_line (before dl dn) w l)
-    line_gate (Input j) n k ns lines e = clash (cc)
+    line_gate (Input j) n k ns lines e = absurd (cc)
     line_gate (Gate g) n k ns lines e =
         let b : n.bytes ≡ w = cc in
         let c : k ≡ g.kind = cc in
@@ -225,8 +196,8 @@ module _ (P : Plan) (sound : Sound P) where
   module _ (dl : List Line) (dn : List (List ℕ)) (a : ℕ) where
     next_of : (s : Said) (ss : List Said) (ls : List Line) (ns : List (List ℕ)) (os : List ℕ) → dl ++ ls ≡ P.lines → dn ++ ns ≡ P.names → length dl ≡ length dn → s ∷ driving ss ≡ drivers P ns ls
         → showing ss ≡ map (λ o. output (name_at P o)) os → AllByRecursion (λ o. o < length P.names) os → a + length os ≤ 63 → Next dl dn a s ss
-    next_of s ss ls [] os lines names size e shown within few = clash (cc)
-    next_of s ss [] (n ∷ ns) os lines names size e shown within few = clash (cc)
+    next_of s ss ls [] os lines names size e shown within few = absurd (cc)
+    next_of s ss [] (n ∷ ns) os lines names size e shown within few = absurd (cc)
     next_of s ss (l ∷ ls) (n ∷ ns) os lines names size e shown within few =
         record {
           word = n;
@@ -253,19 +224,19 @@ module _ (P : Plan) (sound : Sound P) where
     next : (s : Said) (ss : List Said) → drives s ≡ true → Left dl dn a (s ∷ ss) → Next dl dn a s ss
     next s ss d r =
         next_of s ss r.to_drive r.to_name r.to_show r.lines r.names r.size
-        (sym (cond-true (drives s) (s ∷ driving ss) (driving ss) d) ∙ r.driven) (sym (cond-true (drives s) (showing ss) (s ∷ showing ss) d) ∙ r.shown) r.within r.few
+        (sym (cond-true (drives s) (s ∷ driving ss) (driving ss) d) ∙ r.driven) (sym (cond-false (not (drives s)) (s ∷ showing ss) (showing ss) (ap not d)) ∙ r.shown) r.within r.few
 
   -- what a statement leaves
   record Stepped (dl : List Line) (dn : List (List ℕ)) (a : ℕ) (st : Stmt) (ss : List Said) : Type 0 where
     lines : List Line
     names : List (List ℕ)
     asked : ℕ
-    step : drive (before dl dn) a st ≡ Ok (drawing lines names asked)
+    step : drive (drawing dl dn a) st ≡ Ok (drawing lines names asked)
     left : Left lines names asked ss
 
   module _ (dl : List Line) (dn : List (List ℕ)) (a : ℕ) where
     asks : (n : Named) (ss : List Said) (os : List ℕ) → Left dl dn a (output n.bytes ∷ ss) → output n.bytes ∷ showing ss ≡ map (λ o. output (name_at P o)) os → AllByRecursion (λ o. o < length P.names) os → a + length os ≤ 63 → Stepped dl dn a (stmt.output n) ss
-    asks n ss [] r e within few = clash (cc)
+    asks n ss [] r e within few = absurd (cc)
     asks n ss (o ∷ os) r e within few =
         let b : n.bytes ≡ name_at P o = cc in
         let short : long n ≡ false = short_by n (name_at P o) b (sound.short o within.0) in
@@ -304,7 +275,7 @@ module _ (P : Plan) (sound : Sound P) where
     nothing_left [] [] size e = (refl, refl)
     nothing_left [] (n ∷ ns) size e = absurd (omega arith)
     nothing_left (l ∷ ls) [] size e = absurd (omega arith)
-    nothing_left (l ∷ ls) (n ∷ ns) size e = clash (cc)
+    nothing_left (l ∷ ls) (n ∷ ns) size e = absurd (cc)
 
     ended : Left dl dn a [] → drawing dl dn a ≡ drawing P.lines P.names a
     ended r =
@@ -316,19 +287,19 @@ module _ (P : Plan) (sound : Sound P) where
         let y : dn ≡ P.names = sym (append-nil dn) ∙ ap (λ ns. dn ++ ns) (sym none.1) ∙ r.names in
         ap (λ ls. drawing ls dn a) x ∙ ap (λ ns. drawing P.lines ns a) y
 
-  drives_all : (dl : List Line) (dn : List (List ℕ)) (a : ℕ) (sts : List Stmt) → Left dl dn a (said sts) → (b : ℕ) × (fold Drive (drawing dl dn a) sts ≡ Ok (drawing P.lines P.names b))
+  drives_all : (dl : List Line) (dn : List (List ℕ)) (a : ℕ) (sts : List Stmt) → Left dl dn a (said sts) → (b : ℕ) × (fold drive (drawing dl dn a) sts ≡ Ok (drawing P.lines P.names b))
   drives_all dl dn a [] r = (a, ap (λ s. Ok s) (ended dl dn a r))
   drives_all dl dn a (st ∷ sts) r =
       let x = stepped dl dn a st (said sts) r in
       let more = drives_all x.lines x.names x.asked sts x.left in
-      (more.0, bind_by (λ t. fold Drive t sts) x.step ∙ more.1)
+      (more.0, bind_by (λ t. fold drive t sts) x.step ∙ more.1)
 
   -- with the outputs shown so far
-  abbrev pub showing_now : List ℕ → ℕ → State
-  showing_now os a = record { plan = record { lines = P.lines; names = P.names; outputs = os }; asked = a }
+  abbrev pub showing_now : List ℕ → Plan
+  showing_now os = record { lines = P.lines; names = P.names; outputs = os }
 
-  shows_one : (done rest : List ℕ) (o a : ℕ) (n : Named) → done ++ o ∷ rest ≡ P.outputs → n.bytes ≡ name_at P o → show_output (showing_now done a).plan n ≡ Ok (showing_now (done ++ o ∷ []) a).plan
-  shows_one done rest o a n split e =
+  shows_one : (done rest : List ℕ) (o : ℕ) (n : Named) → done ++ o ∷ rest ≡ P.outputs → n.bytes ≡ name_at P o → show_output (showing_now done) n ≡ Ok (showing_now (done ++ o ∷ []))
+  shows_one done rest o n split e =
       let few = sound.few_outputs in
       let size : length done < length P.outputs = omega (arith, length-append done (o ∷ rest), ap length split) in
       let here : get_or P.outputs (length done) 0 ≡ o = ap (λ os. get_or os (length done) 0) (sym split) ∙ get_or_at done o rest 0 (length done) refl in
@@ -337,18 +308,18 @@ module _ (P : Plan) (sound : Sound P) where
       let room : many_outputs (length done) ≡ false = lt-leb 63 (length done) (omega arith) in
       rw (found, room)
 
-  shows_all : (done rest : List ℕ) (a : ℕ) (sts : List Stmt) → done ++ rest ≡ P.outputs → showing (said sts) ≡ map (λ o. output (name_at P o)) rest → fold Show (showing_now done a) sts ≡ Ok (record { plan = P; asked = a })
-  shows_all done [] a [] split e = ap (λ os. Ok (showing_now os a)) (sym (append-nil done) ∙ split)
-  shows_all done (o ∷ rest) a [] split e = clash (cc)
-  shows_all done rest a (stmt.blank ∷ sts) split e = shows_all done rest a sts split e
-  shows_all done rest a (stmt.input n ∷ sts) split e = shows_all done rest a sts split e
-  shows_all done [] a (stmt.output n ∷ sts) split e = clash (cc)
-  shows_all done (o ∷ rest) a (stmt.output n ∷ sts) split e =
+  shows_all : (done rest : List ℕ) (sts : List Stmt) → done ++ rest ≡ P.outputs → showing (said sts) ≡ map (λ o. output (name_at P o)) rest → fold show (showing_now done) sts ≡ Ok P
+  shows_all done [] [] split e = ap (λ os. Ok (showing_now os)) (sym (append-nil done) ∙ split)
+  shows_all done (o ∷ rest) [] split e = absurd (cc)
+  shows_all done rest (stmt.blank ∷ sts) split e = shows_all done rest sts split e
+  shows_all done rest (stmt.input n ∷ sts) split e = shows_all done rest sts split e
+  shows_all done [] (stmt.output n ∷ sts) split e = absurd (cc)
+  shows_all done (o ∷ rest) (stmt.output n ∷ sts) split e =
       let b : n.bytes ≡ name_at P o = cc in
       let c : showing (said sts) ≡ map (λ o. output (name_at P o)) rest = cc in
-      ap (λ r. bind (bind r (λ p. Ok (record { plan = p; asked = a }))) (λ t. fold Show t sts)) (shows_one done rest o a n split b)
-      ∙ shows_all (done ++ o ∷ []) rest a sts (append_assoc done (o ∷ []) rest ∙ split) c
-  shows_all done rest a (stmt.gate n k ns ∷ sts) split e = shows_all done rest a sts split e
+      ap (λ r. bind r (λ t. fold show t sts)) (shows_one done rest o n split b)
+      ∙ shows_all (done ++ o ∷ []) rest sts (append_assoc done (o ∷ []) rest ∙ split) c
+  shows_all done rest (stmt.gate n k ns ∷ sts) split e = shows_all done rest sts split e
 
   pub whole_again : whole P ≡ Ok P
   whole_again =
@@ -357,7 +328,7 @@ module _ (P : Plan) (sound : Sound P) where
       unless_by _ _ (ne_eqb (inputs_in P.lines) 0 (λ e. omega arith)) ∙ unless_by _ _ (ne_eqb (length P.outputs) 0 (λ e. omega arith))
 
   module _ (sts : List Stmt) (driven : driving (said sts) ≡ drivers P P.names P.lines) (shown : showing (said sts) ≡ map (λ o. output (name_at P o)) P.outputs) where
-    pub all_driven : (b : ℕ) × (fold Drive start sts ≡ Ok (showing_now [] b))
+    pub all_driven : (b : ℕ) × (fold drive start sts ≡ Ok (state (showing_now []) b))
     all_driven =
         drives_all [] [] 0 sts
         (record {
@@ -373,5 +344,5 @@ module _ (P : Plan) (sound : Sound P) where
           few = omega (arith, sound.few_outputs);
         })
 
-    pub all_shown : (b : ℕ) → fold Show (showing_now [] b) sts ≡ Ok (record { plan = P; asked = b })
-    all_shown b = shows_all [] P.outputs b sts refl shown
+    pub all_shown : fold show (showing_now []) sts ≡ Ok P
+    all_shown = shows_all [] P.outputs sts refl shown

@@ -1,6 +1,7 @@
 -- What the statements make, where none is refused.
-use Rattle.std.proofs.Common.{◌≡◌, ℕ, ◌+◌, ◌<◌, ◌≤◌, true, eqb, List, [], ◌∷◌, ◌++◌, map, length, get_or, take, None, Ok, sym, refl, ap, ◌∙◌, subst, arith}
-use Rattle.std.proofs.lemmas.List.{append_assoc, append-nil, take_at, get_or_append_left, get_or-take, length_push, length-take, length-map, map-append}
+use Rattle.std.proofs.Common.{◌≡◌, ℕ, ◌+◌, ◌<◌, ◌≤◌, true, not, eqb, List, [], ◌∷◌, ◌++◌, map, length, get_or, None, Ok, sym, refl, ap, ◌∙◌, subst, arith}
+use Rattle.std.proofs.lemmas.List.{append_assoc, append-nil, get_or_append_left, length_push, length-map, map-append}
+use Rattle.std.proofs.lemmas.List.Elements.{filter-append}
 use Rattle.std.proofs.ByRecursion.{All-get_or, All-from_get_or, All-append, All-weaker}
 use Rattle.std.proofs.lemmas.Bool.{leb-false, ltb-false, eqb-false}
 use Rattle.std.specs.Option.{ok_or}
@@ -9,19 +10,19 @@ use Rattle.circuit.specs.Gates.{fits}
 use Rattle.circuit.specs.Names.{find}
 use Rattle.circuit.specs.Plans.{Plan, empty}
 use Rattle.circuit.specs.Shape as shape
-use Rattle.circuit.specs.Shape.{pin_count, pin_from, gate_of, pins_of, filled, inputs_in, Counted, Filled, Fed, Numbered, Distinct}
+use Rattle.circuit.specs.Shape.{pin_count, pin_from, gate_of, pins_of, inputs_in, Counted, Fed, Numbered, Brief, Distinct}
 use Rattle.circuit.specs.declared.kinds.Kind.{Kind}
 use Rattle.circuit.specs.declared.lines.Line.{Line}
 use Rattle.circuit.specs.declared.lines.Line.TheVariants.{Input, Gate}
 use Rattle.netlist.specs.Statements as stmt
-use Rattle.netlist.specs.Statements.{Stmt, Named, bind}
-use Rattle.netlist.specs.Driving.{Fits, State, with_line, with_output, drive_input, drive_gate, ask_output, show_output, drive, show, short_pins, resolve, want_short, want_room, want_undriven, long, full, many_inputs, many_outputs, driven}
-use Rattle.netlist.specs.Grammar.{Said, input, output, gate, name_at, driver, drivers, driving, showing, Makes}
+use Rattle.netlist.specs.Statements.{Stmt, Named}
+use Rattle.netlist.specs.Driving.{Fits, State, state, with_line, with_output, drive_input, drive_gate, ask_output, show_output, drive, show, short_pins, resolve, want_short, want_room, want_undriven, long, full, many_inputs, many_outputs, driven}
+use Rattle.netlist.specs.Grammar.{Said, input, output, gate, name_at, driver, drivers, drives, driving, showing, Makes}
 use Rattle.netlist.proofs.Said.{said_of, bytes_at, Fitting, start}
 use Rattle.netlist.specs.Reading.{whole}
-use Rattle.netlist.specs.declared.reading.Pass.TheVariants.{Drive, Show}
-use Rattle.netlist.proofs.Risen.{bind_ok, unless_ok, ok_or_ok, not_some}
-use Rattle.netlist.proofs.Pushed.{every_push, counted_push, filled_push, fed_push, numbered_push, distinct_push, inputs_append, fits_gate, resolved}
+use Rattle.texts.proofs.Risen.{bind_ok, unless_ok, ok_or_ok}
+use Rattle.netlist.proofs.Risen.{not_some}
+use Rattle.netlist.proofs.Pushed.{every_push, counted_push, fed_push, numbered_push, distinct_push, inputs_append, fits_gate, resolved}
 use Rattle.netlist.proofs.TextLines.{fold, said, all_parts}
 use Rattle.circuit.proofs.Found.{found_at}
 
@@ -30,11 +31,10 @@ record Grown (p : Plan) : Type 0 where
   few_lines : length p.lines ≤ 1024
   few_inputs : inputs_in p.lines ≤ 64
   counted : Counted p.lines
-  filled : Filled p.lines
   fed : Fed p.lines
   numbered : Numbered p.lines
   named : length p.names ≡ length p.lines
-  short : (i : ℕ) → i < length p.names → length (get_or p.names i []) ≤ 16
+  short : Brief p.names
   distinct : Distinct p.names
   unshown : p.outputs ≡ []
 
@@ -47,7 +47,6 @@ grown_push p w l g f short room inputs fresh =
       few_lines = omega arith;
       few_inputs = omega (arith, inputs_append ls (l ∷ []));
       counted = counted_push ls l f g.counted;
-      filled = filled_push ls l f g.filled;
       fed = fed_push ls l f g.fed;
       numbered = numbered_push ls l f g.numbered;
       named = omega (arith, g.named);
@@ -62,7 +61,6 @@ grown_none =
       few_lines = omega arith;
       few_inputs = omega arith;
       counted = λ i h. absurd (omega arith);
-      filled = λ i h. absurd (omega arith);
       fed = λ i p h. absurd (omega arith);
       numbered = λ i h. absurd (omega arith);
       named = refl;
@@ -72,7 +70,7 @@ grown_none =
     }
 
 fits_input : (ls : List Line) → Fits ls (Input (inputs_in ls))
-fits_input ls = record { counted = (omega arith, omega arith); filled = refl; fed = λ p h. absurd (omega arith); numbered = λ _. refl }
+fits_input ls = record { counted = (omega arith, omega arith); fed = λ p h. absurd (omega arith); numbered = λ _. refl }
 
 map_same : {X Y : Type 0} (f g : X → Y) (xs : List X) → AllByRecursion (λ x. f x ≡ g x) xs → map f xs ≡ map g xs
 map_same f g [] h = refl
@@ -81,8 +79,7 @@ map_same f g (x ∷ xs) h = let a = h.0 in let b = map_same f g xs h.1 in cc
 pub pins_below : (l : Line) (n : ℕ) → ((p : ℕ) → p < pin_count l → pin_from l p < n) → AllByRecursion (λ i. i < n) (pins_of l)
 pins_below (Input j) n h = tt
 pins_below (Gate g) n h =
-    All-from_get_or (λ i. i < n) (take g.count g.pins) 0
-    (λ i lt. let s : i < g.count = omega (arith, length-take g.count g.pins) in rw (get_or-take g.count g.pins i 0 s) (h i s))
+    All-from_get_or (λ i. i < n) g.pins 0 h
 
 driver_same : (p q : Plan) (n : List ℕ) (l : Line) → AllByRecursion (λ i. name_at p i ≡ name_at q i) (pins_of l) → driver p n l ≡ driver q n l
 driver_same p q n (Input j) h = refl
@@ -151,8 +148,7 @@ adds_input p q n g e =
 gate_driver : (p : Plan) (w : List ℕ) (k : Kind) (ns : List Named) (ls : List ℕ) → AllByRecursion (λ i. i < length p.names) ls → map (name_at p) ls ≡ map bytes_at ns → driver (with_line p w (Gate (gate_of k ls))) w (Gate (gate_of k ls)) ≡ gate w k (map bytes_at ns)
 gate_driver p w k ns ls h e =
     let q = with_line p w (Gate (gate_of k ls)) in
-    ap (λ ps. gate w k (map (name_at q) ps)) (take_at ls _ (length ls) refl)
-    ∙ ap (gate w k) (map_same (name_at q) (name_at p) ls (All-weaker (λ i. i < length p.names) (λ i. name_at q i ≡ name_at p i) (λ i lt. get_or_append_left p.names (w ∷ []) [] i lt) ls h) ∙ e)
+    ap (gate w k) (map_same (name_at q) (name_at p) ls (All-weaker (λ i. i < length p.names) (λ i. name_at q i ≡ name_at p i) (λ i lt. get_or_append_left p.names (w ∷ []) [] i lt) ls h) ∙ e)
 
 adds_gate : (p q : Plan) (n : Named) (k : Kind) (ns : List Named) → Grown p → fits k (length (map bytes_at ns)) ≡ true → drive_gate p n k ns ≡ Ok q → Adds p (gate n.bytes k (map bytes_at ns) ∷ []) q
 adds_gate p q n k ns g f e =
@@ -175,7 +171,7 @@ adds_gate p q n k ns g f e =
       drivers_with_line p w l (gate n.bytes k (map bytes_at ns)) g (gate_driver p w k ns ls found.0 found.1 ∙ ap (λ w. gate w k (map bytes_at ns)) (sym s.1)),
     )
 
-adds : (p : Plan) (m : ℕ) (t : State) (st : Stmt) → Grown p → AllByRecursion Fitting (said_of st) → drive p m st ≡ Ok t → Adds p (said_of st) t.plan
+adds : (p : Plan) (m : ℕ) (t : State) (st : Stmt) → Grown p → AllByRecursion Fitting (said_of st) → drive (state p m) st ≡ Ok t → Adds p (said_of st) t.plan
 adds p m t stmt.blank g f e = let z : p ≡ t.plan = cc in subst (Adds p []) z (g, sym (append-nil _))
 adds p m t (stmt.input n) g f e =
     let a = bind_ok (drive_input p n) _ t e in
@@ -193,26 +189,14 @@ adds p m t (stmt.gate n k ns) g f e =
     let z : a.0 ≡ t.plan = cc in
     subst (Adds p (gate n.bytes k (map bytes_at ns) ∷ [])) z (adds_gate p a.0 n k ns g f.0 a.1)
 
-driving_append : (ss ts : List Said) → driving (ss ++ ts) ≡ driving ss ++ driving ts
-driving_append [] ts = refl
-driving_append (input n ∷ ss) ts = ap (λ ds. input n ∷ ds) (driving_append ss ts)
-driving_append (output n ∷ ss) ts = driving_append ss ts
-driving_append (gate n k ns ∷ ss) ts = ap (λ ds. gate n k ns ∷ ds) (driving_append ss ts)
-
-showing_append : (ss ts : List Said) → showing (ss ++ ts) ≡ showing ss ++ showing ts
-showing_append [] ts = refl
-showing_append (input n ∷ ss) ts = showing_append ss ts
-showing_append (output n ∷ ss) ts = ap (λ ds. output n ∷ ds) (showing_append ss ts)
-showing_append (gate n k ns ∷ ss) ts = showing_append ss ts
-
-drawn : (s t : State) (sts : List Stmt) → Grown s.plan → AllByRecursion Fitting (said sts) → fold Drive s sts ≡ Ok t → Adds s.plan (said sts) t.plan
+drawn : (s t : State) (sts : List Stmt) → Grown s.plan → AllByRecursion Fitting (said sts) → fold drive s sts ≡ Ok t → Adds s.plan (said sts) t.plan
 drawn s t [] g f e = let z : s.plan ≡ t.plan = cc in subst (Adds s.plan []) z (g, sym (append-nil _))
 drawn s t (st ∷ sts) g f e =
     let h = all_parts Fitting (said_of st) (said sts) f in
-    let a = bind_ok (drive s.plan s.asked st) _ t e in
+    let a = bind_ok (drive s st) _ t e in
     let one = adds s.plan s.asked a.0 st g h.0 a.1 in
     let more = drawn a.0 t sts one.0 h.1 a.2 in
-    (more.0, more.1 ∙ ap (λ ds. ds ++ driving (said sts)) one.1 ∙ append_assoc _ (driving (said_of st)) (driving (said sts)) ∙ ap (λ ds. drivers s.plan s.plan.names s.plan.lines ++ ds) (sym (driving_append (said_of st) (said sts))))
+    (more.0, more.1 ∙ ap (λ ds. ds ++ driving (said sts)) one.1 ∙ append_assoc _ (driving (said_of st)) (driving (said sts)) ∙ ap (λ ds. drivers s.plan s.plan.names s.plan.lines ++ ds) (sym (filter-append drives (said_of st) (said sts))))
 
 -- what statements show of a circuit's lines
 abbrev with_outputs : Plan → List ℕ → Plan
@@ -259,18 +243,15 @@ shows_more p q r ss ts a b =
       shown = a.shown ++ b.shown;
       after = cc;
       within = All-append (λ o. o < length p.names) a.shown b.shown a.within w;
-      named = showing_append ss ts ∙ ap (λ s. s ++ showing ts) a.named ∙ ap (λ s. map (λ o. output (name_at p o)) a.shown ++ s) m ∙ sym (map-append (λ o. output (name_at p o)) a.shown b.shown);
+      named = filter-append (λ s. not (drives s)) ss ts ∙ ap (λ s. s ++ showing ts) a.named ∙ ap (λ s. map (λ o. output (name_at p o)) a.shown ++ s) m ∙ sym (map-append (λ o. output (name_at p o)) a.shown b.shown);
       few = λ h. b.few (a.few h);
     }
 
-shown : (s t : State) (sts : List Stmt) → fold Show s sts ≡ Ok t → Shows s.plan (said sts) t.plan
-shown s t [] e = let z : s.plan ≡ t.plan = cc in subst (Shows s.plan []) z (shows_none s.plan [] refl)
-shown s t (st ∷ sts) e =
-    let a = bind_ok (bind (show s.plan st) (λ p. Ok (record { plan = p; asked = s.asked }))) (λ t. fold Show t sts) t e in
-    let b = bind_ok (show s.plan st) (λ p. Ok (record { plan = p; asked = s.asked })) a.0 a.1 in
-    let r = b.2 in
-    let z : b.0 ≡ a.0.plan = cc in
-    shows_more s.plan a.0.plan t.plan (said_of st) (said sts) (subst (Shows s.plan (said_of st)) z (shows s.plan b.0 st b.1)) (shown a.0 t sts a.2)
+shown : (p q : Plan) (sts : List Stmt) → fold show p sts ≡ Ok q → Shows p (said sts) q
+shown p q [] e = let z : p ≡ q = cc in subst (Shows p []) z (shows_none p [] refl)
+shown p q (st ∷ sts) e =
+    let a = bind_ok (show p st) (λ t. fold show t sts) q e in
+    shows_more p a.0 q (said_of st) (said sts) (shows p a.0 st a.1) (shown a.0 q sts a.2)
 
 -- which names the drivers have hangs on the names alone
 drivers_by_names : (p q : Plan) (ns : List (List ℕ)) (ls : List Line) → p.names ≡ q.names → drivers p ns ls ≡ drivers q ns ls
@@ -298,7 +279,6 @@ makes_shown q os ss g d s within inputs outputs few =
         some_output = outputs;
         few_outputs = few;
         counted = g.counted;
-        filled = g.filled;
         fed = g.fed;
         numbered = g.numbered;
         shown = λ j h. subst (λ n. get_or os j 0 < n) g.named (All-get_or (λ o. o < length q.names) os j 0 h within);
@@ -310,18 +290,18 @@ makes_shown q os ss g d s within inputs outputs few =
       outputs = s;
     }
 
-pub makes : (s t : State) (p : Plan) (sts : List Stmt) → AllByRecursion Fitting (said sts) → fold Drive start sts ≡ Ok s → fold Show s sts ≡ Ok t → whole t.plan ≡ Ok p → Makes (said sts) p
+pub makes : (s : State) (t p : Plan) (sts : List Stmt) → AllByRecursion Fitting (said sts) → fold drive start sts ≡ Ok s → fold show s.plan sts ≡ Ok t → whole t ≡ Ok p → Makes (said sts) p
 makes s t p sts f e1 e2 e3 =
     let q = s.plan in
     let a = drawn start s sts grown_none f e1 in
-    let b = shown s t sts e2 in
-    let w = whole_ok t.plan p e3 in
-    let ls : t.plan.lines ≡ q.lines = ap (λ p. p.lines) b.after in
-    let os : t.plan.outputs ≡ b.shown = ap (λ p. p.outputs) b.after ∙ ap (λ xs. xs ++ b.shown) a.0.unshown in
-    let ns : t.plan.names ≡ q.names = ap (λ p. p.names) b.after in
+    let b = shown q t sts e2 in
+    let w = whole_ok t p e3 in
+    let ls : t.lines ≡ q.lines = ap (λ p. p.lines) b.after in
+    let os : t.outputs ≡ b.shown = ap (λ p. p.outputs) b.after ∙ ap (λ xs. xs ++ b.shown) a.0.unshown in
+    let ns : t.names ≡ q.names = ap (λ p. p.names) b.after in
     let z : record { lines = q.lines; names = q.names; outputs = b.shown } ≡ p = (let x = w.2 in cc) in
-    let few : length t.plan.outputs ≤ 63 = b.few (omega (arith, ap length a.0.unshown)) in
-    let some : 1 ≤ length t.plan.outputs = w.1 in
+    let few : length t.outputs ≤ 63 = b.few (omega (arith, ap length a.0.unshown)) in
+    let some : 1 ≤ length t.outputs = w.1 in
     let inputs : 1 ≤ inputs_in q.lines = subst (λ ls. 1 ≤ inputs_in ls) ls w.0 in
     subst (Makes (said sts)) z
     (makes_shown q b.shown (said sts) a.0 (sym a.1) b.named b.within inputs (omega (arith, ap length os)) (omega (arith, ap length os)))

@@ -1,27 +1,31 @@
 -- What one call of `next_token` takes from a line's tokens.
-use Rattle.std.proofs.Common.{◌≡◌, ℕ, zero, suc, ◌+◌, ◌-◌, ◌<◌, ◌≤◌, Bool, true, false, cond, eqb, List, [], ◌∷◌, length, get_or, drop, sym, refl, ap, ◌∙◌, arith}
-use Rattle.std.proofs.lemmas.List.{at_drop_more, at_drop_all, drop_all}
-use Rattle.std.proofs.lemmas.Bool.{cond_both}
-use Rattle.netlist.specs.Tokens.{run, gap, space_byte, name_byte, words, at, end, first_word, first_size, is_end, first, after, Tok, Word}
+use Rattle.std.specs.List.{prefix_len}
+use Rattle.std.proofs.Common.{◌≡◌, ℕ, zero, suc, ◌+◌, ◌-◌, ◌≤◌, Bool, true, false, cond, eqb, List, [], ◌∷◌, length, get_or, take, drop, sym, refl, ap, ◌∙◌, one-add, arith}
+use Rattle.std.proofs.lemmas.List.{drop_all}
+use Rattle.std.proofs.lemmas.List.Folds.{length-prefix_len}
+use Rattle.std.proofs.lemmas.List.Sums.{prefix_len-le-length}
+use Rattle.std.proofs.lemmas.Bool.{cond_both, eqb-true}
+use Rattle.texts.specs.Bytes.{space_byte, name_byte}
+use Rattle.netlist.specs.Tokens.{gap, words, at, end, first_word, is_end, first, after, Tok, Word, name, spelling, sort_of, sign_word, word_of}
 
-module _ (s : List ℕ) (n : ℕ) where
-  pub gap_hash : n < length s → get_or s n 0 ≡ 35 → gap (drop n s) ≡ suc (length (drop (n + 1) s))
-  gap_hash h e = at_drop_more gap s n 0 h ∙ ap (λ b. cond (eqb b 35) (suc (length (drop (n + 1) s))) (cond (space_byte b) (suc (gap (drop (n + 1) s))) 0)) e
+suc_cond : (b : Bool) (m n : ℕ) → suc (cond b m n) ≡ cond b (suc m) (suc n)
+suc_cond true m n = refl
+suc_cond false m n = refl
 
-  pub gap_more : n < length s → eqb (get_or s n 0) 35 ≡ false → space_byte (get_or s n 0) ≡ true → gap (drop n s) ≡ suc (gap (drop (n + 1) s))
-  gap_more h e t =
-      at_drop_more gap s n 0 h
-      ∙ ap (λ b. cond b (suc (length (drop (n + 1) s))) (cond (space_byte (get_or s n 0)) (suc (gap (drop (n + 1) s))) 0)) e
-      ∙ ap (λ b. cond b (suc (gap (drop (n + 1) s))) 0) t
+hash_no_space : (b : ℕ) → eqb b 35 ≡ true → space_byte b ≡ false
+hash_no_space b h = ap space_byte (eqb-true b 35 h)
 
-  pub gap_stop : n < length s → eqb (get_or s n 0) 35 ≡ false → space_byte (get_or s n 0) ≡ false → gap (drop n s) ≡ 0
-  gap_stop h e t =
-      at_drop_more gap s n 0 h
-      ∙ ap (λ b. cond b (suc (length (drop (n + 1) s))) (cond (space_byte (get_or s n 0)) (suc (gap (drop (n + 1) s))) 0)) e
-      ∙ ap (λ b. cond b (suc (gap (drop (n + 1) s))) 0) t
-
-  pub gap_end : length s ≤ n → gap (drop n s) ≡ 0
-  gap_end h = at_drop_all gap s n h
+-- the separators, and all of the bytes where a comment stands after them
+pub gap_spaces : (s : List ℕ) → gap s ≡ cond (eqb (get_or (drop (prefix_len space_byte s) s) 0 0) 35) (length s) (prefix_len space_byte s)
+gap_spaces [] = refl
+gap_spaces (b ∷ bs) =
+    let n = prefix_len space_byte bs in
+    let P : ℕ → Type 0 = λ k. k ≡ cond (eqb (get_or (drop (prefix_len space_byte (b ∷ bs)) (b ∷ bs)) 0 0) 35) (suc (length bs)) (prefix_len space_byte (b ∷ bs)) in
+    cond_both (eqb b 35) _ _ P
+    (λ h. rw (hash_no_space b h, h) refl)
+    (λ h. cond_both (space_byte b) _ _ P
+    (λ t. rw (t, one-add, gap_spaces bs) (suc_cond (eqb (get_or (drop n bs) 0 0) 35) (length bs) n))
+    (λ t. rw (t, h) refl))
 
 pub gap_within : (s : List ℕ) → gap s ≤ length s
 gap_within [] = omega arith
@@ -60,12 +64,38 @@ not_end b bs =
     (λ _. cond_both (eqb b 44) _ _ P (λ _. refl)
     (λ _. cond_both (eqb b 61) _ _ P (λ _. refl) (λ _. refl)))))
 
+-- how many bytes of a text without a gap belong to its first word
+abbrev pub first_size : List ℕ → ℕ
+first_size [] = 0
+first_size (b ∷ bs) = suc (cond (name_byte b) (prefix_len name_byte bs) 0)
+
+sign_size : (b : ℕ) → length (spelling (sign_word b)) ≡ 1
+sign_size b =
+    let P : Word → Type 0 = λ w. length (spelling w) ≡ 1 in
+    cond_both (eqb b 40) _ _ P (λ _. refl)
+    (λ _. cond_both (eqb b 41) _ _ P (λ _. refl)
+    (λ _. cond_both (eqb b 44) _ _ P (λ _. refl)
+    (λ _. cond_both (eqb b 61) _ _ P (λ _. refl) (λ _. refl))))
+
+-- they are those that the word has
+pub spelling_size : (s : List ℕ) → length (spelling (first_word s)) ≡ first_size s
+spelling_size [] = refl
+spelling_size (b ∷ bs) = by_name (name_byte b)
+  where
+    by_name : (v : Bool) → length (spelling (cond v (name (b ∷ take (prefix_len name_byte bs) bs)) (sign_word b))) ≡ suc (cond v (prefix_len name_byte bs) 0)
+    by_name true = ap suc (length-prefix_len name_byte bs)
+    by_name false = sign_size b
+
+pub first_within : (s : List ℕ) → first_size s ≤ length s
+first_within [] = omega arith
+first_within (b ∷ bs) = cond_both (name_byte b) _ _ (λ n. suc n ≤ suc (length bs)) (λ _. omega (arith, prefix_len-le-length name_byte bs)) (λ _. omega arith)
+
 clear : (h t : Bool) (m n : ℕ) → cond h (suc m) (cond t (suc n) 0) ≡ 0 → (h ≡ false) × (t ≡ false)
 clear true t m n e = absurd (omega arith)
 clear false true m n e = absurd (omega arith)
 clear false false m n e = (refl, refl)
 
-words_cons : (l e b : ℕ) (bs : List ℕ) → gap (b ∷ bs) ≡ 0 → words l e 0 (b ∷ bs) ≡ at l (e - suc (length bs)) (first_word (b ∷ bs)) ∷ words l e (cond (name_byte b) (run name_byte bs) 0) bs
+words_cons : (l e b : ℕ) (bs : List ℕ) → gap (b ∷ bs) ≡ 0 → words l e 0 (b ∷ bs) ≡ at l (e - suc (length bs)) (first_word (b ∷ bs)) ∷ words l e (cond (name_byte b) (prefix_len name_byte bs) 0) bs
 words_cons l e b bs g =
     let z = clear (eqb b 35) (space_byte b) _ _ g in
     let h = z.0 in
@@ -76,7 +106,7 @@ words_cons l e b bs g =
 words_first : (l e : ℕ) (s : List ℕ) → gap s ≡ 0 → (first (words l e 0 s) ≡ at l (e - length s) (first_word s)) × (after (words l e 0 s) ≡ words l e 0 (drop (first_size s) s))
 words_first l e [] g = (ap (λ c. at l c end) (omega arith), refl)
 words_first l e (b ∷ bs) g =
-    let k : ℕ = cond (name_byte b) (run name_byte bs) 0 in
+    let k : ℕ = cond (name_byte b) (prefix_len name_byte bs) 0 in
     let w = words_cons l e b bs g in (
       ap first w,
       ap after w
@@ -104,5 +134,14 @@ words_length l e (suc k) (b ∷ bs) = omega (arith, words_length l e k bs)
 words_length l e zero (b ∷ bs) =
     let P : List Tok → Type 0 = λ ts. length ts ≤ suc (length bs) + 1 in
     let m = words_length l e 0 bs in
-    let n = words_length l e (cond (name_byte b) (run name_byte bs) 0) bs in
+    let n = words_length l e (cond (name_byte b) (prefix_len name_byte bs) 0) bs in
     cond_both (eqb b 35) _ _ P (λ _. omega arith) (λ _. cond_both (space_byte b) _ _ P (λ _. omega arith) (λ _. omega arith))
+
+-- the token of one byte has its sort, and its byte
+pub sign_spelt : (b : ℕ) → (word_of (sort_of (sign_word b)) (b ∷ []) ≡ sign_word b) × (spelling (sign_word b) ≡ b ∷ [])
+sign_spelt b =
+    let P : Word → Type 0 = λ w. (word_of (sort_of w) (b ∷ []) ≡ w) × (spelling w ≡ b ∷ []) in
+    cond_both (eqb b 40) _ _ P (λ h. (refl, ap (λ c. c ∷ []) (sym (eqb-true b 40 h))))
+    (λ _. cond_both (eqb b 41) _ _ P (λ h. (refl, ap (λ c. c ∷ []) (sym (eqb-true b 41 h))))
+    (λ _. cond_both (eqb b 44) _ _ P (λ h. (refl, ap (λ c. c ∷ []) (sym (eqb-true b 44 h))))
+    (λ _. cond_both (eqb b 61) _ _ P (λ h. (refl, ap (λ c. c ∷ []) (sym (eqb-true b 61 h)))) (λ _. (refl, refl)))))

@@ -1,7 +1,5 @@
-pub mod Runs
 pub mod Gaps
 pub mod PinTurns
-pub mod LineTurns
 pub mod Said
 pub mod Risen
 pub mod Pushed

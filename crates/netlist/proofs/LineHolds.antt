@@ -1,21 +1,23 @@
 -- A line that is read as a statement holds that statement.
 use Rattle.std.proofs.Common.{◌≡◌, ℕ, zero, suc, ◌+◌, ◌≤◌, Bool, true, false, cond, not, eqb, ◌⊎◌, List, [], ◌∷◌, ◌++◌, map, length, get_or, Ok, Err, codes, Result, sym, refl, ap, ◌∙◌, subst, inl, inr, ⊎_elim, arith}
-use Rattle.std.specs.List.{AllByRecursion}
+use Rattle.std.specs.List.{prefix_len, AllByRecursion}
 use Rattle.std.proofs.lemmas.List.{length-map}
 use Rattle.std.proofs.lemmas.Bool.{cond_both, both_ways, eqb-true, not-false}
-use Rattle.circuit.specs.Gates.{kind_word, fits}
+use Rattle.circuit.specs.Gates.{kind_word, spells, kind_of, fits}
 use Rattle.circuit.specs.declared.kinds.Kind.{Kind}
 use Rattle.circuit.specs.declared.refusals.Refusal.{Refusal}
 use Rattle.circuit.specs.declared.refusals.Refusal.TheVariants.{NoKind, WrongPins}
 use Rattle.netlist.specs.declared.statements.Form.{Form}
 use Rattle.netlist.specs.declared.tokens.Sort.{Sort}
 use Rattle.netlist.specs.declared.tokens.Sort.TheVariants as sort
-use Rattle.netlist.specs.Tokens.{Tok, Word, name, open_sign, close_sign, comma, equals, stray, end, name_byte, space_byte, run, spelling, first_byte, sort_of, order, same_sort, words, line_tokens, is_end, first, after}
+use Rattle.texts.specs.Bytes.{name_byte, space_byte}
+use Rattle.netlist.specs.Tokens.{Tok, Word, name, open_sign, close_sign, comma, equals, stray, end, spelling, word_of, sort_of, order, same_sort, words, line_tokens, is_end, first, after}
 use Rattle.netlist.specs.Statements as stmt
-use Rattle.netlist.specs.Statements.{Named, bind, want, want_name, one_name, next_pin, plus, more_pins, pins, labels, spells, kind_of, want_kind, Stmt, unless, gate_statement, form_of, by_form, statement_of}
+use Rattle.texts.specs.Steps.{bind, unless}
+use Rattle.netlist.specs.Statements.{Named, want, want_name, one_name, next_pin, plus, more_pins, pins, labels, want_kind, Stmt, gate_statement, form_of, by_form, statement_of}
 use Rattle.netlist.specs.Grammar.{Said, input, output, gate, pin_words, words_of, Proper, Holds, none, one}
 use Rattle.netlist.proofs.Said.{bytes_at, said_of, Fitting}
-use Rattle.netlist.proofs.Risen.{clash, bind_ok, unless_ok, ok_or_ok}
+use Rattle.texts.proofs.Risen.{bind_ok, unless_ok, ok_or_ok}
 use Rattle.netlist.proofs.Gaps.{not_end}
 use Rattle.netlist.proofs.Spelling.{said, Plain, words_spell}
 use Rattle.netlist.proofs.LineWords.{spells_is, spells_no, kind_back, more_words, pin_words_more}
@@ -31,7 +33,7 @@ words_end l e (suc k) (b ∷ bs) = words_end l e k bs
 words_end l e zero (b ∷ bs) =
     cond_both (eqb b 35) _ _ Ends (λ _. stop _ refl)
     (λ _. cond_both (space_byte b) _ _ Ends (λ _. words_end l e 0 bs)
-    (λ _. more _ (not_end b bs) (words_end l e (cond (name_byte b) (run name_byte bs) 0) bs)))
+    (λ _. more _ (not_end b bs) (words_end l e (cond (name_byte b) (prefix_len name_byte bs) 0) bs)))
 
 -- the first of them, and those after it
 end_first : {ts : List Tok} → Ends ts → is_end (first ts).word ≡ true → said ts ≡ end ∷ []
@@ -42,17 +44,8 @@ said_first : {ts : List Tok} (w : Word) → Ends ts → (first ts).word ≡ w �
 said_first w (stop t e) q n = absurd (both_ways _ n (ap is_end (sym q ∙ e)))
 said_first w (more t {ts} n r) q f = rw (n, q) (refl, r)
 
--- a word by its sort and its bytes
-abbrev sorted : Sort → List ℕ → Word
-sorted sort.Name bs = name bs
-sorted sort.Open bs = open_sign
-sorted sort.Close bs = close_sign
-sorted sort.Comma bs = comma
-sorted sort.Equals bs = equals
-sorted sort.Stray bs = stray (first_byte bs)
-sorted sort.End bs = end
-
-sorted_is : (w : Word) → w ≡ sorted (sort_of w) (spelling w)
+-- a word is that of its sort and its bytes
+sorted_is : (w : Word) → w ≡ word_of (sort_of w) (spelling w)
 sorted_is (name bs) = refl
 sorted_is open_sign = refl
 sorted_is close_sign = refl
@@ -76,19 +69,19 @@ from_order_is sort.End = refl
 sort_same : (a b : Sort) → same_sort a b ≡ true → a ≡ b
 sort_same a b h = sym (from_order_is a) ∙ ap from_order (eqb-true (order a) (order b) h) ∙ from_order_is b
 
-word_sorted : (w : Word) (s : Sort) → same_sort (sort_of w) s ≡ true → w ≡ sorted s (spelling w)
-word_sorted w s h = sorted_is w ∙ ap (λ a. sorted a (spelling w)) (sort_same (sort_of w) s h)
+word_sorted : (w : Word) (s : Sort) → same_sort (sort_of w) s ≡ true → w ≡ word_of s (spelling w)
+word_sorted w s h = sorted_is w ∙ ap (λ a. word_of a (spelling w)) (sort_same (sort_of w) s h)
 
 -- what went before a good result
 cond_ok : {X : Type 0} (b : Bool) (x y : X) (d : Refusal) → cond b (Ok x) (Err d) ≡ Ok y → (b ≡ true) × (x ≡ y)
 cond_ok true x y d e = (refl, cc)
-cond_ok false x y d e = clash (cc)
+cond_ok false x y d e = absurd (cc)
 
 plus_ok : (r : Result ℕ Refusal) (n : ℕ) → plus 1 r ≡ Ok n → (m : ℕ) × (r ≡ Ok m) × (suc m ≡ n)
 plus_ok (Ok m) n e = let z : 1 + m ≡ n = cc in (m, refl, omega arith)
-plus_ok (Err d) n e = clash (cc)
+plus_ok (Err d) n e = absurd (cc)
 
-want_ok : (t : Tok) (s : Sort) (u : Unit {0}) → want t s ≡ Ok u → t.word ≡ sorted s (spelling t.word)
+want_ok : (t : Tok) (s : Sort) (u : Unit {0}) → want t s ≡ Ok u → t.word ≡ word_of s (spelling t.word)
 want_ok t s u e = word_sorted t.word s (cond_ok _ _ _ _ e).0
 
 want_name_word : (t : Tok) (n : Named) → want_name t ≡ Ok n → t.word ≡ name (spelling t.word)
@@ -98,10 +91,10 @@ want_name_ok : (t : Tok) (n : Named) → want_name t ≡ Ok n → t.word ≡ nam
 want_name_ok t n e = want_name_word t n e ∙ ap (λ m. name m.bytes) (cond_ok _ _ _ _ e).1
 
 four_ok : {A B Y : Type 0} (r₀ : Result (Unit {0}) Refusal) (r₁ : Result A Refusal) (r₂ : Result (Unit {0}) Refusal) (r₃ : Result B Refusal) (f : A → B → Result Y Refusal) (y : Y) → bind r₀ (λ _. bind r₁ (λ a. bind r₂ (λ _. bind r₃ (f a)))) ≡ Ok y → (a : A) × (b : B) × (r₀ ≡ Ok tt) × (r₁ ≡ Ok a) × (r₂ ≡ Ok tt) × (r₃ ≡ Ok b) × (f a b ≡ Ok y)
-four_ok (Err d) r₁ r₂ r₃ f y e = clash (cc)
-four_ok (Ok u) (Err d) r₂ r₃ f y e = clash (cc)
-four_ok (Ok u) (Ok a) (Err d) r₃ f y e = clash (cc)
-four_ok (Ok u) (Ok a) (Ok v) (Err d) f y e = clash (cc)
+four_ok (Err d) r₁ r₂ r₃ f y e = absurd (cc)
+four_ok (Ok u) (Err d) r₂ r₃ f y e = absurd (cc)
+four_ok (Ok u) (Ok a) (Err d) r₃ f y e = absurd (cc)
+four_ok (Ok u) (Ok a) (Ok v) (Err d) f y e = absurd (cc)
 four_ok (Ok u) (Ok a) (Ok v) (Ok b) f y e = (a, b, refl, refl, refl, refl, e)
 
 three_said : (ts : List Tok) (v : Word) (n : List ℕ) (w : Word) → Ends ts → is_end v ≡ false → is_end w ≡ false → (first ts).word ≡ v → (first (after ts)).word ≡ name n → (first (after (after ts))).word ≡ w → (said ts ≡ v ∷ name n ∷ w ∷ said (after (after (after ts)))) × Ends (after (after (after ts)))
@@ -138,7 +131,7 @@ next_pin_ok ts b =
     (λ h e. let p = bind_ok (want t sort.End) (λ _. Ok false) b e in
     let z : b ≡ false = cc p.2 in
     inr (word_sorted s.word sort.Close h, want_ok t sort.End tt p.1, z))
-    (λ _ e. clash (cc)))
+    (λ _ e. absurd (cc)))
 
 ends_alone : {t : Tok} → Ends (t ∷ []) → t.word ≡ end
 ends_alone (stop t e) = e
@@ -174,11 +167,11 @@ module _ (s t : Tok) (ts : List Tok) (m : ℕ) (r : Ends (s ∷ t ∷ ts)) where
       rw (← z, n, f) (λ i. a i ∷ b i ∷ w i)
 
 more_ok : (ts : List Tok) (m : ℕ) → Ends ts → more_pins ts ≡ Ok m → More ts m
-more_ok [] m r e = clash (cc)
+more_ok [] m r e = absurd (cc)
 more_ok (s ∷ []) m r e =
     let z = ends_alone r in
     let d = rw z at e in
-    clash (cc)
+    absurd (cc)
 more_ok (s ∷ t ∷ ts) m r e =
     let f : Bool → Result ℕ Refusal = λ b. cond b (plus 1 (more_pins ts)) (Ok 0) in
     let p = bind_ok (next_pin (s ∷ t ∷ ts)) f m e in

@@ -2,7 +2,7 @@
 use Rattle.std.proofs.Common.{◌≡◌, ℕ, ◌≤◌, true, false, List, [], ◌∷◌, ◌++◌, map, length, Ok, Result, refl, ap, ◌∙◌, one-add, arith}
 use Rattle.std.specs.Option.{ok_or}
 use Rattle.std.specs.List.{AllByRecursion}
-use Rattle.circuit.specs.Gates.{kind_word, fits}
+use Rattle.circuit.specs.Gates.{kind_word, kind_of, fits}
 use Rattle.circuit.specs.declared.kinds.Kind.{Kind}
 use Rattle.circuit.specs.declared.refusals.Refusal.{Refusal}
 use Rattle.circuit.specs.declared.refusals.Refusal.TheVariants.{NoKind}
@@ -12,19 +12,18 @@ use Rattle.netlist.specs.declared.tokens.Sort.{Sort}
 use Rattle.netlist.specs.declared.tokens.Sort.TheVariants as sort
 use Rattle.netlist.specs.Tokens.{Tok, Word, name, open_sign, close_sign, comma, equals, end, spelling, sort_of, same_sort, line_tokens, is_end, first, after}
 use Rattle.netlist.specs.Statements as stmt
-use Rattle.netlist.specs.Statements.{Named, label, want, want_name, one_name, more_pins, pins, labels, kind_of, want_kind, Stmt, gate_statement, form_of, by_form, statement_of}
+use Rattle.netlist.specs.Statements.{Named, label, want, want_name, one_name, more_pins, pins, labels, want_kind, Stmt, gate_statement, form_of, by_form, statement_of}
 use Rattle.netlist.specs.Grammar.{Said, input, output, gate, pin_words, words_of, Proper, Holds, none, one}
 use Rattle.netlist.proofs.Said.{bytes_at, said_of, Fitting}
 use Rattle.netlist.proofs.Spelling.{said, words_spelt}
-use Rattle.netlist.proofs.Risen.{clash}
 use Rattle.netlist.proofs.LineWords.{kind_is, form_gate, more_words, pin_words_more}
 
 head_is : (ts : List Tok) (w : Word) (ws : List Word) → said ts ≡ w ∷ ws → (first ts).word ≡ w
-head_is [] w ws q = clash (cc)
+head_is [] w ws q = absurd (cc)
 head_is (t ∷ ts) w ws q = cc
 
 tail_is : (ts : List Tok) (w : Word) (ws : List Word) → said ts ≡ w ∷ ws → is_end w ≡ false → said (after ts) ≡ ws
-tail_is [] w ws q f = clash (cc)
+tail_is [] w ws q f = absurd (cc)
 tail_is (t ∷ ts) w ws q f =
     let z : t.word ≡ w = cc in
     let r : said ts ≡ ws = cc in
@@ -53,14 +52,14 @@ abbrev Pins : Result ℕ Refusal → (ℕ → List Named) → List (List ℕ) �
 Pins r read ns = (r ≡ Ok (length ns)) × (map bytes_at (read (length ns)) ≡ ns)
 
 more_reads : (ns : List (List ℕ)) (ts : List Tok) → said ts ≡ more_words ns ++ end ∷ [] → Pins (more_pins ts) (λ m. labels m (after ts)) ns
-more_reads [] [] q = clash (cc)
-more_reads [] (s ∷ []) q = clash (cc)
+more_reads [] [] q = absurd (cc)
+more_reads [] (s ∷ []) q = absurd (cc)
 more_reads [] (s ∷ t ∷ ts) q =
     let a : s.word ≡ close_sign = cc in
     let b : t.word ≡ end = cc in
     (rw (a, b), refl)
-more_reads (n ∷ ns) [] q = clash (cc)
-more_reads (n ∷ ns) (s ∷ []) q = clash (cc)
+more_reads (n ∷ ns) [] q = absurd (cc)
+more_reads (n ∷ ns) (s ∷ []) q = absurd (cc)
 more_reads (n ∷ ns) (s ∷ t ∷ ts) q =
     let a : s.word ≡ comma = cc in
     let b : t.word ≡ name n = cc in

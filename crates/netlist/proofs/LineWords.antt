@@ -6,10 +6,9 @@ use Rattle.circuit.specs.declared.kinds.Kind.{Kind}
 use Rattle.circuit.specs.declared.kinds.Kind.TheVariants.{And, Nand, Or, Nor, Xor, Xnor, Not, Buff}
 use Rattle.netlist.specs.declared.statements.Form.TheVariants.{OneGate}
 use Rattle.netlist.specs.Tokens.{Word, name, close_sign, comma}
-use Rattle.netlist.specs.Statements.{spells, kind_of, form_of}
-use Rattle.circuit.specs.Gates.{kind_word}
+use Rattle.netlist.specs.Statements.{form_of}
+use Rattle.circuit.specs.Gates.{kind_word, spells, kind_of}
 use Rattle.netlist.specs.Grammar.{pin_words}
-use Rattle.netlist.proofs.Risen.{clash}
 
 -- a text that passes the test of its bytes is those bytes
 module _ (w : List ℕ) where
@@ -52,7 +51,7 @@ module _ (w : List ℕ) (k : Kind) where
   pub kind_back : kind_of w ≡ Some k → w ≡ kind_word k
   kind_back =
       kind_or And _ (kind_or Nand _ (kind_or Or _ (kind_or Nor _ (kind_or Xor _ (kind_or Xnor _ (kind_or Not _ (kind_or Buff _
-      (λ e. clash (cc)))))))))
+      (λ e. absurd (cc)))))))))
 
 cond_not : {X : Type 0} (b : Bool) (x y : X) → (b ≡ true → ⊥) → cond b x y ≡ y
 cond_not true x y h = absurd (h refl)

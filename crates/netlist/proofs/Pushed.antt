@@ -1,5 +1,5 @@
 -- One line more, or one output more, keeps what every draft is; a gate of pins that are found may follow the lines.
-use Rattle.std.proofs.Common.{◌≡◌, ℕ, ◌+◌, ◌<◌, ◌≤◌, true, false, leb, List, [], ◌∷◌, ◌++◌, map, length, get_or, take, None, Ok, sym, refl, ap, ◌∙◌, subst, ⊎_elim, arith}
+use Rattle.std.proofs.Common.{◌≡◌, ℕ, ◌+◌, ◌<◌, ◌≤◌, true, false, leb, List, [], ◌∷◌, ◌++◌, map, length, get_or, take, None, Ok, sym, refl, ◌∙◌, subst, ⊎_elim, arith}
 use Rattle.std.proofs.lemmas.List.{length_push, get_or_push, get_or_append_left, take-append-le, take_at}
 use Rattle.std.proofs.ByRecursion.{All-get_or}
 use Rattle.std.proofs.lemmas.Bool.{cases_lt, and_parts, leb-true, both_ways}
@@ -7,14 +7,15 @@ use Rattle.std.specs.Option.{ok_or}
 use Rattle.std.specs.List.{AllByRecursion}
 use Rattle.circuit.specs.Gates.{fits, least, most}
 use Rattle.circuit.specs.Names.{find}
-use Rattle.circuit.specs.Shape.{blank, is_input, input_at, pin_count, pin_from, least_pins, most_pins, places, filled, padded, gate_of, inputs_in, Counted, Filled, Fed, Numbered, Distinct, Shown}
+use Rattle.circuit.specs.Shape.{blank, is_input, input_at, pin_count, pin_from, least_pins, most_pins, gate_of, inputs_in, Counted, Fed, Numbered, Distinct}
 use Rattle.circuit.specs.declared.kinds.Kind.{Kind}
 use Rattle.circuit.specs.declared.lines.Line.{Line}
 use Rattle.circuit.specs.declared.lines.Line.TheVariants.{Input, Gate}
 use Rattle.circuit.proofs.Found.{found_at, none_at}
-use Rattle.netlist.specs.Statements.{Named, bind}
+use Rattle.texts.specs.Steps.{bind}
+use Rattle.netlist.specs.Statements.{Named}
 use Rattle.netlist.specs.Driving.{Fits, resolve}
-use Rattle.netlist.proofs.Risen.{bind_ok, ok_or_ok}
+use Rattle.texts.proofs.Risen.{bind_ok, ok_or_ok}
 use Rattle.netlist.proofs.Said.{bytes_at}
 
 -- what holds of each element at its place holds with one element more
@@ -29,9 +30,6 @@ every_push d P xs x h here i lt =
 module _ (ls : List Line) (l : Line) (ok : Fits ls l) where
   pub counted_push : Counted ls → Counted (ls ++ l ∷ [])
   counted_push h = every_push blank (λ i x. (least_pins x ≤ pin_count x) × (pin_count x ≤ most_pins x)) ls l h ok.counted
-
-  pub filled_push : Filled ls → Filled (ls ++ l ∷ [])
-  filled_push h = every_push blank (λ i x. places x ≡ filled x) ls l h ok.filled
 
   pub fed_push : Fed ls → Fed (ls ++ l ∷ [])
   fed_push h i p lt = every_push blank (λ i x. (p : ℕ) → p < pin_count x → pin_from x p < i) ls l (λ i lt p. h i p lt) ok.fed i lt p
@@ -54,19 +52,12 @@ inputs_append [] ms = omega arith
 inputs_append (Input j ∷ ls) ms = omega (arith, inputs_append ls ms)
 inputs_append (Gate g ∷ ls) ms = inputs_append ls ms
 
-pub shown_more : (os : List ℕ) (n m : ℕ) → n ≤ m → Shown os n → Shown os m
-shown_more os n m le h j lt = omega (arith, h j lt)
-
-pub shown_push : (os : List ℕ) (o n : ℕ) → o < n → Shown os n → Shown (os ++ o ∷ []) n
-shown_push os o n lt h = every_push 0 (λ i x. x < n) os o h lt
-
 pub fits_gate : (ls : List Line) (k : Kind) (ps : List ℕ) → fits k (length ps) ≡ true → AllByRecursion (λ i. i < length ls) ps → Fits ls (Gate (gate_of k ps))
 fits_gate ls k ps f h =
     let c = and_parts (leb (least k) (length ps)) (leb (length ps) (most k)) f in
     record {
       counted = (leb-true (least k) (length ps) c.0, leb-true (length ps) (most k) c.1);
-      filled = ap padded (sym (take_at ps _ (length ps) refl));
-      fed = λ p lt. rw (get_or_append_left ps _ 0 p lt) (All-get_or (λ i. i < length ls) ps p 0 lt h);
+      fed = λ p lt. All-get_or (λ i. i < length ls) ps p 0 lt h;
       numbered = λ e. absurd (both_ways false refl e);
     }
 

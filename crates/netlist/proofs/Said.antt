@@ -6,8 +6,7 @@ use Rattle.circuit.specs.Plans.{empty}
 use Rattle.netlist.specs.Tokens.{line_tokens}
 use Rattle.netlist.specs.Statements as stmt
 use Rattle.netlist.specs.Statements.{Stmt, Named, statement_of}
-use Rattle.netlist.specs.Driving.{State}
-use Rattle.netlist.specs.Reading.{state}
+use Rattle.netlist.specs.Driving.{State, state}
 use Rattle.netlist.specs.Grammar.{Said, input, output, gate, Holds}
 
 abbrev pub bytes_at : Named → List ℕ

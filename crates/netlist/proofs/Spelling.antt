@@ -1,12 +1,14 @@
 -- The tokens of a line are the words that its bytes spell.
-use Rattle.std.proofs.Common.{◌≡◌, ℕ, zero, suc, Bool, true, false, cond, eqb, List, [], ◌∷◌, ◌++◌, map, length, take, drop, sym, refl, ap, ◌∙◌, subst, arith}
-use Rattle.std.specs.List.{AllByRecursion}
+use Rattle.std.proofs.Common.{◌≡◌, ℕ, zero, suc, Bool, true, false, cond, eqb, List, [], ◌∷◌, ◌++◌, map, length, take, drop, sym, refl, ap, ◌∙◌, subst, one-add, arith}
+use Rattle.std.specs.List.{prefix_len, AllByRecursion}
 use Rattle.std.proofs.lemmas.List.{take_at, drop_at, take-append-drop}
-use Rattle.std.proofs.lemmas.Bool.{cond_both, both_ways, ne_eqb, eqb-true, or_from}
-use Rattle.netlist.specs.Tokens.{Tok, Word, name, open_sign, close_sign, comma, equals, stray, end, name_byte, space_byte, run, spelling, sign_word, first_word, is_end, words}
+use Rattle.std.proofs.lemmas.Bool.{cond_both, both_ways, eqb-true}
+use Rattle.texts.specs.Bytes.{name_byte, space_byte}
+use Rattle.netlist.specs.Tokens.{Tok, Word, name, open_sign, close_sign, comma, equals, stray, end, spelling, sign_word, first_word, is_end, words}
 use Rattle.netlist.specs.Grammar.{Written, Apart, begins_name, Spells, nothing, comment, separator, word}
 use Rattle.netlist.proofs.Gaps.{words_skip, not_end}
-use Rattle.netlist.proofs.Runs.{run_front}
+use Rattle.texts.proofs.Fronts.{run_front, run_all}
+use Rattle.texts.proofs.NameBytes.{differs, name_no_space}
 
 abbrev pub what : Tok → Word
 what t = t.word
@@ -25,29 +27,19 @@ Plain equals = Unit {0}
 Plain (stray b) = ⊥
 Plain end = ⊥
 
-differs : (p : ℕ → Bool) (b c : ℕ) → p b ≡ true → p c ≡ false → eqb b c ≡ false
-differs p b c h n = ne_eqb b c (λ e. both_ways (p b) (ap p e ∙ n) h)
-
 space_no_hash : (b : ℕ) → space_byte b ≡ true → eqb b 35 ≡ false
 space_no_hash b h = differs space_byte b 35 h refl
 
 name_no_hash : (b : ℕ) → name_byte b ≡ true → eqb b 35 ≡ false
 name_no_hash b h = differs name_byte b 35 h refl
 
-name_no_space : (b : ℕ) → name_byte b ≡ true → space_byte b ≡ false
-name_no_space b h = or_from _ _ (differs name_byte b 32 h refl) (or_from _ _ (differs name_byte b 9 h refl) (differs name_byte b 13 h refl))
-
-no_name : (bs : List ℕ) → begins_name bs ≡ false → run name_byte bs ≡ 0
+no_name : (bs : List ℕ) → begins_name bs ≡ false → prefix_len name_byte bs ≡ 0
 no_name [] a = refl
 no_name (b ∷ bs) a = rw a
 
-run_all : (p : ℕ → Bool) (bs : List ℕ) → AllByRecursion (λ b. p b ≡ true) (take (run p bs) bs)
-run_all p [] = tt
-run_all p (b ∷ bs) = cond_both (p b) _ _ (λ n. AllByRecursion (λ b. p b ≡ true) (take n (b ∷ bs))) (λ h. (h, run_all p bs)) (λ h. tt)
-
-run_ends : (bs : List ℕ) → begins_name (drop (run name_byte bs) bs) ≡ false
+run_ends : (bs : List ℕ) → begins_name (drop (prefix_len name_byte bs) bs) ≡ false
 run_ends [] = refl
-run_ends (b ∷ bs) = cond_both (name_byte b) _ _ (λ n. begins_name (drop n (b ∷ bs)) ≡ false) (λ h. run_ends bs) (λ h. h)
+run_ends (b ∷ bs) = cond_both (name_byte b) _ _ (λ n. begins_name (drop n (b ∷ bs)) ≡ false) (λ h. rw one-add (run_ends bs)) (λ h. h)
 
 module _ (l e : ℕ) where
   one_word : (w : Word) (bs : List ℕ) → Written w → Apart w bs → said (words l e 0 (spelling w ++ bs)) ≡ w ∷ said (words l e 0 bs)
@@ -77,7 +69,7 @@ only_end (w ∷ ws) h q = let z : end ≡ w = cc in absurd (subst Plain (sym z) 
 
 -- how many of bs go on with the first word
 abbrev name_rest : ℕ → List ℕ → ℕ
-name_rest b bs = cond (name_byte b) (run name_byte bs) 0
+name_rest b bs = cond (name_byte b) (prefix_len name_byte bs) 0
 
 module _ (b : ℕ) (bs : List ℕ) (ws : List Word) where
   abbrev Front : Word → Type 0
@@ -93,16 +85,16 @@ module _ (b : ℕ) (bs : List ℕ) (ws : List Word) where
       (λ _. cond_both (eqb b 44) _ _ Front (sign_at comma 44 (word tt tt s))
       (λ _. cond_both (eqb b 61) _ _ Front (sign_at equals 61 (word tt tt s)) (λ _ h. absurd h))))
 
-  name_spells : name_byte b ≡ true → Spells (drop (run name_byte bs) bs) ws → Front (name (b ∷ take (run name_byte bs) bs))
+  name_spells : name_byte b ≡ true → Spells (drop (prefix_len name_byte bs) bs) ws → Front (name (b ∷ take (prefix_len name_byte bs) bs))
   name_spells t s h =
-      let n : ℕ = run name_byte bs in
+      let n : ℕ = prefix_len name_byte bs in
       subst (λ xs. Spells (b ∷ xs) (name (b ∷ take n bs) ∷ ws)) (take-append-drop n bs)
       (word {w = name (b ∷ take n bs)} (omega arith, (t, run_all name_byte bs)) (run_ends bs) s)
 
   first_spells : Spells (drop (name_rest b bs) bs) ws → Front (first_word (b ∷ bs))
   first_spells = go (name_byte b) refl
     where
-      go : (v : Bool) → name_byte b ≡ v → Spells (drop (cond v (run name_byte bs) 0) bs) ws → Front (cond v (name (b ∷ take (run name_byte bs) bs)) (sign_word b))
+      go : (v : Bool) → name_byte b ≡ v → Spells (drop (cond v (prefix_len name_byte bs) 0) bs) ws → Front (cond v (name (b ∷ take (prefix_len name_byte bs) bs)) (sign_word b))
       go true t s = name_spells t s
       go false t s = sign_spells s
 

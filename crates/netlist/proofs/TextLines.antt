@@ -3,18 +3,18 @@ use Rattle.std.proofs.Common.{◌≡◌, ℕ, suc, ◌+◌, ◌≤◌, true, fal
 use Rattle.std.proofs.lemmas.List.{append_assoc, append-nil, take_at, take_all, drop_all, drop_at, length-append}
 use Rattle.std.proofs.ByRecursion.{All-append}
 use Rattle.std.proofs.lemmas.Bool.{cases_Bool, eqb-true, not-false}
-use Rattle.std.specs.List.{flat_map, AllByRecursion}
+use Rattle.std.specs.List.{prefix_len, flat_map, AllByRecursion}
 use Rattle.circuit.specs.declared.refusals.Refusal.{Refusal}
-use Rattle.netlist.specs.Tokens.{run, line_tokens, Word, name, open_sign, close_sign, comma, equals, stray, end, spelling}
-use Rattle.netlist.specs.Statements.{Stmt, bind, statement_of}
-use Rattle.netlist.specs.Driving.{State}
-use Rattle.netlist.specs.Reading.{in_line, lines_of, step, tell}
-use Rattle.netlist.specs.declared.reading.Pass.{Pass}
+use Rattle.netlist.specs.Tokens.{line_tokens, Word, name, open_sign, close_sign, comma, equals, stray, end, spelling}
+use Rattle.texts.specs.Steps.{bind}
+use Rattle.netlist.specs.Statements.{Stmt, statement_of}
+use Rattle.texts.specs.Lines.{in_line, lines_of}
+use Rattle.netlist.specs.Reading.{tell}
 use Rattle.netlist.specs.Grammar.{Said, input, output, gate, words_of, Written, Spells, nothing, comment, separator, word, Holds, none, one, Text, last, line}
 use Rattle.netlist.proofs.Said.{said_of, Fitting, LineLaw}
-use Rattle.netlist.proofs.Risen.{clash, bind_ok}
-use Rattle.netlist.proofs.LineTurns.{lines_turn}
-use Rattle.netlist.proofs.Runs.{run_front}
+use Rattle.texts.proofs.Risen.{bind_ok}
+use Rattle.texts.proofs.LineTurns.{lines_turn}
+use Rattle.texts.proofs.Fronts.{run_front}
 
 -- a text and its lines; a last line that is empty is none
 data Lines : List ℕ → List (List ℕ) → Type 0 where
@@ -24,8 +24,8 @@ data Lines : List ℕ → List (List ℕ) → Type 0 where
 
 lines_one : (b : ℕ) (bs : List ℕ) → AllByRecursion (λ b. in_line b ≡ true) (b ∷ bs) → lines_of (b ∷ bs) ≡ (b ∷ bs) ∷ []
 lines_one b bs h =
-    let r : run in_line (b ∷ bs) ≡ length (b ∷ bs) = ap (run in_line) (sym (append-nil (b ∷ bs))) ∙ run_front in_line (b ∷ bs) [] h refl in
-    let n = run in_line (b ∷ bs) in
+    let r : prefix_len in_line (b ∷ bs) ≡ length (b ∷ bs) = ap (prefix_len in_line) (sym (append-nil (b ∷ bs))) ∙ run_front in_line (b ∷ bs) [] h refl in
+    let n = prefix_len in_line (b ∷ bs) in
     let t : take n (b ∷ bs) ≡ b ∷ bs = take_all n (b ∷ bs) (omega arith) in
     let d : drop (suc n) (b ∷ bs) ≡ [] = drop_all (suc n) (b ∷ bs) (omega arith) in
     lines_turn (b ∷ bs) (omega arith) ∙ ap (λ x. x ∷ lines_of (drop (suc n) (b ∷ bs))) t ∙ ap (λ x. (b ∷ bs) ∷ lines_of x) d
@@ -34,11 +34,11 @@ lines_more : (bs rest : List ℕ) → AllByRecursion (λ b. in_line b ≡ true) 
 lines_more bs rest h =
     let s = bs ++ 10 ∷ rest in
     let r = run_front in_line bs (10 ∷ rest) h refl in
-    let t : take (run in_line s) s ≡ bs = take_at bs (10 ∷ rest) _ (sym r) in
+    let t : take (prefix_len in_line s) s ≡ bs = take_at bs (10 ∷ rest) _ (sym r) in
     let e : s ≡ (bs ++ 10 ∷ []) ++ rest = sym (append_assoc bs (10 ∷ []) rest) in
-    let n : length (bs ++ 10 ∷ []) ≡ suc (run in_line s) = omega (arith, length-append bs (10 ∷ [])) in
-    let d : drop (suc (run in_line s)) s ≡ rest = ap (drop (suc (run in_line s))) e ∙ drop_at (bs ++ 10 ∷ []) rest _ n in
-    lines_turn s (omega (arith, length-append bs (10 ∷ rest))) ∙ ap (λ x. x ∷ lines_of (drop (suc (run in_line s)) s)) t ∙ ap (λ x. bs ∷ lines_of x) d
+    let n : length (bs ++ 10 ∷ []) ≡ suc (prefix_len in_line s) = omega (arith, length-append bs (10 ∷ [])) in
+    let d : drop (suc (prefix_len in_line s)) s ≡ rest = ap (drop (suc (prefix_len in_line s))) e ∙ drop_at (bs ++ 10 ∷ []) rest _ n in
+    lines_turn s (omega (arith, length-append bs (10 ∷ rest))) ∙ ap (λ x. x ∷ lines_of (drop (suc (prefix_len in_line s)) s)) t ∙ ap (λ x. bs ∷ lines_of x) d
 
 lines_are : {text : List ℕ} {ls : List (List ℕ)} → Lines text ls → lines_of text ≡ ls
 lines_are no_line = refl
@@ -75,21 +75,21 @@ bind_same (Ok x) f g h = h x
 bind_same (Err d) f g h = refl
 
 -- statement after statement
-abbrev pub fold : Pass → State → List Stmt → Result State Refusal
-fold pass s [] = Ok s
-fold pass s (st ∷ sts) = bind (step pass s st) (λ t. fold pass t sts)
+abbrev pub fold : {S : Type 0} → (S → Stmt → Result S Refusal) → S → List Stmt → Result S Refusal
+fold step s [] = Ok s
+fold step s (st ∷ sts) = bind (step s st) (λ t. fold step t sts)
 
-pub read_tell : (pass : Pass) {l : ℕ} {ls : List (List ℕ)} {sts : List Stmt} (s : State) → Read l ls sts → tell pass l s ls ≡ fold pass s sts
-read_tell pass s nil = refl
-read_tell pass {l} s (cons {x = x} {xs = xs} {st = st} {sts = sts} e r) =
-    ap (λ r. bind (bind r (step pass s)) (λ t. tell pass (l + 1) t xs)) e ∙ bind_same (step pass s st) (λ t. tell pass (l + 1) t xs) (λ t. fold pass t sts) (λ t. read_tell pass t r)
+pub read_tell : {S : Type 0} (step : S → Stmt → Result S Refusal) {l : ℕ} {ls : List (List ℕ)} {sts : List Stmt} (s : S) → Read l ls sts → tell step l s ls ≡ fold step s sts
+read_tell step s nil = refl
+read_tell step {l} s (cons {x = x} {xs = xs} {st = st} {sts = sts} e r) =
+    ap (λ r. bind (bind r (step s)) (λ t. tell step (l + 1) t xs)) e ∙ bind_same (step s st) (λ t. tell step (l + 1) t xs) (λ t. fold step t sts) (λ t. read_tell step t r)
 
-pub told_read : (pass : Pass) (l : ℕ) (s t : State) (ls : List (List ℕ)) → tell pass l s ls ≡ Ok t → (sts : List Stmt) × Read l ls sts
-told_read pass l s t [] e = ([], nil)
-told_read pass l s t (x ∷ xs) e =
-    let a = bind_ok (bind (statement_of (line_tokens l x)) (step pass s)) (λ t. tell pass (l + 1) t xs) t e in
-    let b = bind_ok (statement_of (line_tokens l x)) (step pass s) a.0 a.1 in
-    let more = told_read pass (l + 1) a.0 t xs a.2 in
+pub told_read : {S : Type 0} (step : S → Stmt → Result S Refusal) (l : ℕ) (s t : S) (ls : List (List ℕ)) → tell step l s ls ≡ Ok t → (sts : List Stmt) × Read l ls sts
+told_read step l s t [] e = ([], nil)
+told_read step l s t (x ∷ xs) e =
+    let a = bind_ok (bind (statement_of (line_tokens l x)) (step s)) (λ t. tell step (l + 1) t xs) t e in
+    let b = bind_ok (statement_of (line_tokens l x)) (step s) a.0 a.1 in
+    let more = told_read step (l + 1) a.0 t xs a.2 in
     (b.0 ∷ more.0, cons b.1 more.1)
 
 -- the statements without their places
@@ -112,9 +112,9 @@ spells_none e (separator t r) = absurd (omega arith)
 spells_none e (word {w} {bs} wr ap r) = absurd (omega (arith, word_size w wr, length-append (spelling w) bs))
 
 some_words : (s : Said) → words_of s ≡ [] → ⊥
-some_words (input n) e = clash (cc)
-some_words (output n) e = clash (cc)
-some_words (gate n k ns) e = clash (cc)
+some_words (input n) e = absurd (cc)
+some_words (output n) e = absurd (cc)
+some_words (gate n k ns) e = absurd (cc)
 
 empty_holds : {bs : List ℕ} {ss : List Said} → length bs ≡ 0 → Holds bs ss → ss ≡ []
 empty_holds e (none sp) = refl

@@ -1,5 +1,5 @@
 -- A refusal of something in a text has its place in the text.
-use Rattle.std.proofs.Common.{◌≡◌, ℕ, suc, ◌+◌, ◌-◌, ◌<◌, ◌≤◌, true, eqb, ltb, List, [], ◌∷◌, length, get_or, Err, refl, subst, arith}
+use Rattle.std.proofs.Common.{◌≡◌, ℕ, suc, ◌+◌, ◌-◌, ◌<◌, ◌≤◌, true, eqb, ltb, List, [], ◌∷◌, length, get_or, Err, Result, refl, subst, arith}
 use Rattle.std.specs.List.{AllByRecursion}
 use Rattle.std.proofs.lemmas.Bool.{both_ways}
 use Rattle.circuit.specs.Names.{find}
@@ -11,11 +11,11 @@ use Rattle.circuit.specs.declared.refusals.Place.{Place}
 use Rattle.circuit.specs.declared.refusals.Refusal.{Refusal}
 use Rattle.circuit.specs.declared.refusals.Refusal.TheVariants.{LongText, LongName, ManyLines, ManyInputs, ManyOutputs, Redriven, UnknownPin, UnknownOutput, NoInput, NoOutput}
 use Rattle.netlist.specs.Tokens.{line_tokens}
-use Rattle.netlist.specs.Statements.{Named, Stmt, blank, input, output, gate, bind, statement_of}
-use Rattle.netlist.specs.Driving.{State, long, full, many_inputs, many_outputs, driven, want_short, want_room, want_undriven, drive_input, short_pins, resolve, drive_gate, ask_output, show_output, drive, show}
-use Rattle.netlist.specs.Reading.{lines_of, step, tell, state, whole, meaning, Within, Placed}
-use Rattle.netlist.specs.declared.reading.Pass.{Pass}
-use Rattle.netlist.specs.declared.reading.Pass.TheVariants.{Drive, Show}
+use Rattle.texts.specs.Steps.{bind}
+use Rattle.netlist.specs.Statements.{Named, Stmt, blank, input, output, gate, statement_of}
+use Rattle.netlist.specs.Driving.{State, state, long, full, many_inputs, many_outputs, driven, want_short, want_room, want_undriven, drive_input, short_pins, resolve, drive_gate, ask_output, show_output, drive, show}
+use Rattle.texts.specs.Lines.{lines_of}
+use Rattle.netlist.specs.Reading.{tell, whole, meaning, Within, Placed}
 use Rattle.netlist.proofs.TokenPlaces.{Either, taken, Any, either_refused, either_weaker, either_bind, either_unless, either_ok_or, Refused, Stands, Names, statement_place, Spot, line_fine}
 
 -- a refusal of a statement has the place of one of its names
@@ -64,11 +64,11 @@ module _ (G : Place → Type 0) where
       either_bind (either_ok_or (find p.names n.bytes) (UnknownOutput n.place) h) (λ _ _.
       either_unless (many_outputs (length p.outputs)) (ManyOutputs n.place) h (taken tt))
 
-  drive_place : (p : Plan) (asked : ℕ) (st : Stmt) → Names G st → Either (Refused G) Any (drive p asked st)
-  drive_place p asked blank h = taken tt
-  drive_place p asked (input n) h = either_bind (input_place p n h) (λ _ _. taken tt)
-  drive_place p asked (output n) h = either_bind (ask_place asked n h) (λ _ _. taken tt)
-  drive_place p asked (gate n k ns) h = either_bind (gate_place p n k ns h.0 h.1) (λ _ _. taken tt)
+  drive_place : (s : State) (st : Stmt) → Names G st → Either (Refused G) Any (drive s st)
+  drive_place s blank h = taken tt
+  drive_place s (input n) h = either_bind (input_place s.plan n h) (λ _ _. taken tt)
+  drive_place s (output n) h = either_bind (ask_place s.asked n h) (λ _ _. taken tt)
+  drive_place s (gate n k ns) h = either_bind (gate_place s.plan n k ns h.0 h.1) (λ _ _. taken tt)
 
   show_place : (p : Plan) (st : Stmt) → Names G st → Either (Refused G) Any (show p st)
   show_place p blank h = taken tt
@@ -76,24 +76,22 @@ module _ (G : Place → Type 0) where
   show_place p (output n) h = output_place p n h
   show_place p (gate n k ns) h = taken tt
 
-  step_place : (pass : Pass) (s : State) (st : Stmt) → Names G st → Either (Refused G) Any (step pass s st)
-  step_place Drive s st h = drive_place s.plan s.asked st h
-  step_place Show s st h = either_bind (show_place s.plan st h) (λ _ _. taken tt)
-
 -- a place in one of these lines, the first of them line l
 abbrev Among : ℕ → List (List ℕ) → Place → Type 0
 Among l ls p = (i : ℕ) × (i < length ls) × Spot (l + i) (length (get_or ls i []) + 1) p
 
-line_place : (pass : Pass) (l : ℕ) (s : State) (x : List ℕ) → Either (Refused (Spot l (length x + 1))) Any (bind (statement_of (line_tokens l x)) (step pass s))
-line_place pass l s x =
-    let G = Spot l (length x + 1) in
-    either_bind (statement_place G (line_tokens l x) (line_fine l x)) (step_place G pass s)
+-- each refusal of a step has the place of one of the statement's names
+module _ {S : Type 0} (step : S → Stmt → Result S Refusal) (placed : (G : Place → Type 0) (s : S) (st : Stmt) → Names G st → Either (Refused G) Any (step s st)) where
+  line_place : (l : ℕ) (s : S) (x : List ℕ) → Either (Refused (Spot l (length x + 1))) Any (bind (statement_of (line_tokens l x)) (step s))
+  line_place l s x =
+      let G = Spot l (length x + 1) in
+      either_bind (statement_place G (line_tokens l x) (line_fine l x)) (placed G s)
 
-tell_place : (pass : Pass) (l : ℕ) (s : State) (ls : List (List ℕ)) → Either (Refused (Among l ls)) Any (tell pass l s ls)
-tell_place pass l s [] = taken tt
-tell_place pass l s (x ∷ xs) =
-    either_bind (either_weaker (λ _ h. (0, omega arith, (omega arith, h.1, h.2))) (line_place pass l s x))
-    (λ t _. either_weaker (λ _ h. (suc h.0, omega arith, (omega arith, h.2.1, h.2.2))) (tell_place pass (l + 1) t xs))
+  tell_place : (l : ℕ) (s : S) (ls : List (List ℕ)) → Either (Refused (Among l ls)) Any (tell step l s ls)
+  tell_place l s [] = taken tt
+  tell_place l s (x ∷ xs) =
+      either_bind (either_weaker (λ _ h. (0, omega arith, (omega arith, h.1, h.2))) (line_place l s x))
+      (λ t _. either_weaker (λ _ h. (suc h.0, omega arith, (omega arith, h.2.1, h.2.2))) (tell_place (l + 1) t xs))
 
 module _ (text : List ℕ) where
   among_within : (p : Place) → Among 1 (lines_of text) p → Within text p
@@ -106,8 +104,8 @@ module _ (text : List ℕ) where
         column_to = subst (λ i. p.column ≤ length (get_or (lines_of text) i []) + 1) e h.2.2;
       }
 
-  lines_place : (pass : Pass) (s : State) → Either (Placed text) Any (tell pass 1 s (lines_of text))
-  lines_place pass s = either_weaker (λ e h _. among_within (place_of e) h) (tell_place pass 1 s (lines_of text))
+  lines_place : {X : Type 0} {r : Result X Refusal} → Either (Refused (Among 1 (lines_of text))) Any r → Either (Placed text) Any r
+  lines_place h = either_weaker (λ e h _. among_within (place_of e) h) h
 
   whole_place : (p : Plan) → Either (Placed text) Any (whole p)
   whole_place p =
@@ -117,9 +115,9 @@ module _ (text : List ℕ) where
   meaning_place : Either (Placed text) Any (meaning text)
   meaning_place =
       either_unless (ltb 65536 (length text)) LongText (λ e. absurd (both_ways true e refl)) (
-      either_bind (lines_place Drive (state empty 0)) (λ s _.
-      either_bind (lines_place Show s) (λ t _.
-      whole_place t.plan)))
+      either_bind (lines_place (tell_place drive drive_place 1 (state empty 0) (lines_of text))) (λ s _.
+      either_bind (lines_place (tell_place show show_place 1 s.plan (lines_of text))) (λ q _.
+      whole_place q)))
 
 pub place_law : (text : List ℕ) (e : Refusal) → meaning text ≡ Err e → Placed text e
 place_law text e m = either_refused (subst (Either (Placed text) Any) m (meaning_place text))

@@ -1,9 +1,9 @@
 -- The places of a line's tokens, and of what its statement is refused for.
 use Rattle.std.proofs.Common.{◌≡◌, ℕ, zero, suc, ◌+◌, ◌<◌, ◌≤◌, Bool, true, false, cond, not, eqb, List, [], ◌∷◌, length, Some, None, Ok, Err, Option, Result, refl, ap, ◌∙◌, subst, arith}
 use Rattle.std.specs.Option.{ok_or}
-use Rattle.std.specs.List.{AllByRecursion}
+use Rattle.std.specs.List.{prefix_len, AllByRecursion}
 use Rattle.std.proofs.lemmas.Bool.{both_ways, cond_both, eqb-true}
-use Rattle.circuit.specs.Gates.{fits}
+use Rattle.circuit.specs.Gates.{kind_of, fits}
 use Rattle.circuit.specs.Refusals.{place_of}
 use Rattle.circuit.specs.declared.refusals.Place.{Place}
 use Rattle.circuit.specs.declared.refusals.Refusal.{Refusal}
@@ -12,8 +12,10 @@ use Rattle.netlist.specs.declared.statements.Form.{Form}
 use Rattle.netlist.specs.declared.statements.Form.TheVariants.{OneInput, OneOutput, OneGate}
 use Rattle.netlist.specs.declared.tokens.Sort.{Sort}
 use Rattle.netlist.specs.declared.tokens.Sort.TheVariants.{Name, Open, Close, Comma, Equals, End}
-use Rattle.netlist.specs.Tokens.{Tok, Word, name, open_sign, close_sign, comma, equals, stray, end, name_byte, space_byte, run, sort_of, order, same_sort, at, words, line_tokens, is_end, first, after}
-use Rattle.netlist.specs.Statements.{Named, bind, want, want_name, one_name, next_pin, plus, more_pins, pins, labels, kind_of, Stmt, blank, input, output, gate, unless, gate_statement, form_of, by_form, statement_of}
+use Rattle.texts.specs.Bytes.{name_byte, space_byte}
+use Rattle.netlist.specs.Tokens.{Tok, Word, name, open_sign, close_sign, comma, equals, stray, end, sort_of, order, same_sort, at, words, line_tokens, is_end, first, after}
+use Rattle.texts.specs.Steps.{bind, unless}
+use Rattle.netlist.specs.Statements.{Named, want, want_name, one_name, next_pin, plus, more_pins, pins, labels, Stmt, blank, input, output, gate, gate_statement, form_of, by_form, statement_of}
 
 -- P holds of the refusal, or Q of the result
 pub data Either {X : Type 0} (P : Refusal → Type 0) (Q : X → Type 0) : Result X Refusal → Type 0 where
@@ -173,7 +175,7 @@ words_fine l e (suc k) (b ∷ bs) h = words_fine l e k bs (omega arith)
 words_fine l e zero (b ∷ bs) h =
     cond_both (eqb b 35) _ _ (Fine (Spot l e)) (λ _. end_fine l e (omega arith))
     (λ _. cond_both (space_byte b) _ _ (Fine (Spot l e)) (λ _. words_fine l e 0 bs (omega arith))
-    (λ _. fine (refl, omega arith, omega arith) (λ _. words_fine l e (cond (name_byte b) (run name_byte bs) 0) bs (omega arith))))
+    (λ _. fine (refl, omega arith, omega arith) (λ _. words_fine l e (cond (name_byte b) (prefix_len name_byte bs) 0) bs (omega arith))))
 
 pub line_fine : (l : ℕ) (bs : List ℕ) → Fine (Spot l (length bs + 1)) (line_tokens l bs)
 line_fine l bs = words_fine l (length bs + 1) 0 bs (omega arith)

@@ -2,21 +2,19 @@
 use Rattle.std.specs.Prelude.{◌≡◌, ℕ, ◌+◌, ◌<◌, ◌≤◌, Bool, true, List, [], ◌∷◌, ◌++◌, length, is_some, Ok, Err, Result, nat_le, nat_lt}
 use Rattle.std.specs.Option.{ok_or}
 use Rattle.circuit.specs.Names.{find}
-use Rattle.circuit.specs.Shape.{is_input, input_at, pin_count, pin_from, least_pins, most_pins, places, filled, inputs_in, gate_of}
-use Rattle.circuit.specs.Spelled.{bytes_of}
+use Rattle.circuit.specs.Shape.{is_input, input_at, pin_count, pin_from, least_pins, most_pins, inputs_in, gate_of}
 use Rattle.circuit.specs.Plans.{Plan}
 use Rattle.circuit.specs.declared.kinds.Kind.{Kind}
 use Rattle.circuit.specs.declared.lines.Line.{Line}
 use Rattle.circuit.specs.declared.lines.Line.TheVariants.{Input, Gate}
-use Rattle.circuit.specs.declared.names.Name.{Name}
 use Rattle.circuit.specs.declared.refusals.Refusal.{Refusal}
 use Rattle.circuit.specs.declared.refusals.Refusal.TheVariants.{LongName, ManyLines, ManyInputs, ManyOutputs, Redriven, UnknownPin, UnknownOutput}
-use Rattle.netlist.specs.Statements.{Named, Stmt, blank, input, output, gate, bind, unless}
+use Rattle.texts.specs.Steps.{bind, unless}
+use Rattle.netlist.specs.Statements.{Named, Stmt, blank, input, output, gate}
 
 -- a line may follow these lines
 pub record Fits (ls : List Line) (l : Line) : Type 0 where
   pub counted : (least_pins l ≤ pin_count l) × (pin_count l ≤ most_pins l)
-  pub filled : places l ≡ filled l
   pub fed : (p : ℕ) → p < pin_count l → pin_from l p < length ls
   pub numbered : is_input l ≡ true → input_at l ≡ inputs_in ls
 
@@ -29,22 +27,17 @@ abbrev pub with_output : Plan → ℕ → Plan
 with_output p l = record { lines = p.lines; names = p.names; outputs = p.outputs ++ l ∷ [] }
 
 -- what a call answered, with what it left
-abbrev pub outcome : Result (Unit {0}) Refusal → Plan → Result Plan Refusal
-outcome (Ok u) p = Ok p
-outcome (Err e) p = Err e
+abbrev pub outcome : {X : Type 0} → Result (Unit {0}) Refusal → X → Result X Refusal
+outcome (Ok u) x = Ok x
+outcome (Err e) x = Err e
 
 -- a circuit in the making, and how many outputs are asked for
 pub record State : Type 0 where
   pub plan : Plan
   pub asked : ℕ
 
-abbrev pub counted : Result ℕ Refusal → Plan → Result State Refusal
-counted (Ok n) p = Ok (record { plan = p; asked = n })
-counted (Err e) p = Err e
-
-abbrev pub spelt : Result Name Refusal → Result (List ℕ) Refusal
-spelt (Ok n) = Ok (bytes_of n)
-spelt (Err e) = Err e
+abbrev pub state : Plan → ℕ → State
+state p n = record { plan = p; asked = n }
 
 -- over: the name has more than 16 bytes
 abbrev pub long : Named → Bool
@@ -116,11 +109,11 @@ show_output p n =
     Ok (with_output p l)))
 
 -- the first reading of a statement drives its line, or counts its output
-abbrev pub drive : Plan → ℕ → Stmt → Result State Refusal
-drive p asked blank = Ok (record { plan = p; asked = asked })
-drive p asked (input n) = bind (drive_input p n) (λ q. Ok (record { plan = q; asked = asked }))
-drive p asked (output n) = bind (ask_output asked n) (λ m. Ok (record { plan = p; asked = m }))
-drive p asked (gate n k ns) = bind (drive_gate p n k ns) (λ q. Ok (record { plan = q; asked = asked }))
+abbrev pub drive : State → Stmt → Result State Refusal
+drive s blank = Ok s
+drive s (input n) = bind (drive_input s.plan n) (λ q. Ok (state q s.asked))
+drive s (output n) = bind (ask_output s.asked n) (λ m. Ok (state s.plan m))
+drive s (gate n k ns) = bind (drive_gate s.plan n k ns) (λ q. Ok (state q s.asked))
 
 -- the second reading shows its output
 abbrev pub show : Plan → Stmt → Result Plan Refusal

@@ -1,5 +1,5 @@
 -- The notation as a relation: which bytes spell which statements, and which statements make which circuit.
-use Rattle.std.specs.Prelude.{◌≡◌, ℕ, ◌<◌, ◌≤◌, Bool, true, false, cond, List, [], ◌∷◌, ◌++◌, map, length, Some, Ok, codes, Result, ◌≢◌, slice_index_or}
+use Rattle.std.specs.Prelude.{◌≡◌, ℕ, ◌<◌, ◌≤◌, Bool, true, false, not, List, [], ◌∷◌, ◌++◌, map, filter, length, Some, Ok, codes, Result, ◌≢◌, slice_index_or}
 use Rattle.std.specs.List.{AllByRecursion}
 use Rattle.circuit.specs.Gates.{kind_word}
 use Rattle.circuit.specs.Names.{find}
@@ -9,8 +9,9 @@ use Rattle.circuit.specs.declared.kinds.Kind.{Kind}
 use Rattle.circuit.specs.declared.lines.Line.{Line}
 use Rattle.circuit.specs.declared.lines.Line.TheVariants.{Input, Gate}
 use Rattle.circuit.specs.declared.refusals.Refusal.{Refusal}
-use Rattle.netlist.specs.Tokens.{Word, name, open_sign, close_sign, comma, equals, stray, end, name_byte, space_byte, spelling}
-use Rattle.netlist.specs.Reading.{in_line}
+use Rattle.texts.specs.Bytes.{name_byte, space_byte}
+use Rattle.netlist.specs.Tokens.{Word, name, open_sign, close_sign, comma, equals, stray, end, spelling}
+use Rattle.texts.specs.Lines.{in_line}
 
 -- a statement by its names
 pub data Said : Type 0 where
@@ -97,12 +98,10 @@ drives (gate n k ns) = true
 
 -- the statements that drive lines, and those that show outputs, each in their order
 abbrev pub driving : List Said → List Said
-driving [] = []
-driving (s ∷ ss) = cond (drives s) (s ∷ driving ss) (driving ss)
+driving ss = filter drives ss
 
 abbrev pub showing : List Said → List Said
-showing [] = []
-showing (s ∷ ss) = cond (drives s) (showing ss) (s ∷ showing ss)
+showing ss = filter (λ s. not (drives s)) ss
 
 -- statements make a circuit: they are those of its lines and of its outputs, each in order, and it is sound
 pub record Makes (ss : List Said) (p : Plan) : Type 0 where

@@ -1,14 +1,16 @@
 -- What a line's tokens state.
-use Rattle.std.specs.Prelude.{ℕ, zero, suc, ◌+◌, Bool, true, false, cond, not, ◌&&◌, List, [], ◌∷◌, length, Some, None, Ok, Err, codes, Option, Result, ◌==◌, slice_index}
+use Rattle.std.specs.Prelude.{ℕ, zero, suc, ◌+◌, Bool, true, false, cond, not, List, [], ◌∷◌, Ok, Err, codes, Result}
 use Rattle.std.specs.Option.{ok_or}
-use Rattle.circuit.specs.Gates.{fits}
+use Rattle.circuit.specs.Gates.{spells, kind_of, fits}
 use Rattle.circuit.specs.declared.kinds.Kind.{Kind}
-use Rattle.circuit.specs.declared.kinds.Kind.TheVariants.{And, Nand, Or, Nor, Xor, Xnor, Not, Buff}
 use Rattle.circuit.specs.declared.refusals.Place.{Place}
 use Rattle.circuit.specs.declared.refusals.Refusal.{Refusal}
 use Rattle.circuit.specs.declared.refusals.Refusal.TheVariants.{Misform, NoKind, WrongPins}
+use Rattle.texts.specs.Steps.{bind, unless}
 use Rattle.netlist.specs.Tokens.{Tok, spelling, sort_of, same_sort, is_end, first, after, toks}
 use Rattle.netlist.specs.declared.statements.Label.{Label}
+use Rattle.netlist.specs.declared.statements.Labels.{Labels}
+use Rattle.netlist.specs.declared.statements.pins.Pins.{Pins}
 use Rattle.netlist.specs.declared.statements.Statement.{Statement}
 use Rattle.netlist.specs.declared.statements.Statement.TheVariants as code
 use Rattle.netlist.specs.declared.statements.Form.{Form}
@@ -27,11 +29,6 @@ named l = record { bytes = l.bytes.now; place = l.place }
 -- a token that is taken for a name
 abbrev pub label : Tok → Named
 label t = record { bytes = spelling t.word; place = t.place }
-
--- one thing, and then what it leads to; a refusal rises unchanged
-abbrev pub bind : {X Y : Type 0} → Result X Refusal → (X → Result Y Refusal) → Result Y Refusal
-bind (Ok x) f = f x
-bind (Err e) f = Err e
 
 abbrev pub told : Result Label Refusal → Result Named Refusal
 told (Ok l) = Ok (named l)
@@ -77,21 +74,13 @@ abbrev pub labels : ℕ → List Tok → List Named
 labels zero ts = []
 labels (suc n) ts = label (first ts) ∷ labels n (after (after ts))
 
--- w has the bytes bs from place i on, and no others after
-abbrev pub spells : List ℕ → ℕ → List ℕ → Bool
-spells w i [] = length w == i
-spells w i (b ∷ bs) = slice_index w i == b && spells w (i + 1) bs
+-- the names of a gate's pins
+abbrev pub pin_labels : Pins → List Named
+pin_labels p = labels p.count (toks p.scanner)
 
-abbrev pub kind_of : List ℕ → Option Kind
-kind_of w =
-    cond (spells w 0 (codes "AND")) (Some And) (
-    cond (spells w 0 (codes "NAND")) (Some Nand) (
-    cond (spells w 0 (codes "OR")) (Some Or) (
-    cond (spells w 0 (codes "NOR")) (Some Nor) (
-    cond (spells w 0 (codes "XOR")) (Some Xor) (
-    cond (spells w 0 (codes "XNOR")) (Some Xnor) (
-    cond (spells w 0 (codes "NOT")) (Some Not) (
-    cond (spells w 0 (codes "BUFF")) (Some Buff) None)))))))
+-- the names of the pins that are left
+abbrev pub pins_left : Labels → List Named
+pins_left s = labels s.count (toks s.scanner)
 
 abbrev pub want_kind : Named → Result Kind Refusal
 want_kind w = ok_or (kind_of w.bytes) (NoKind w.place)
@@ -107,22 +96,11 @@ abbrev pub stmt_of : Statement → Stmt
 stmt_of code.Blank = blank
 stmt_of (code.Input n) = input (named n)
 stmt_of (code.Output n) = output (named n)
-stmt_of (code.Gate n k p) = gate (named n) k (labels p.count (toks p.scanner))
-
--- the number of pins fits the kind
-abbrev pub fitted : Statement → Bool
-fitted code.Blank = true
-fitted (code.Input n) = true
-fitted (code.Output n) = true
-fitted (code.Gate n k p) = fits k p.count
+stmt_of (code.Gate n p) = gate (named n) p.kind (pin_labels p)
 
 abbrev pub stated : Result Statement Refusal → Result Stmt Refusal
 stated (Ok s) = Ok (stmt_of s)
 stated (Err e) = Err e
-
--- the refusal, where its condition holds
-abbrev pub unless : {X : Type 0} → Bool → Refusal → Result X Refusal → Result X Refusal
-unless b e r = cond b (Err e) r
 
 -- the form of the whole statement, then the kind, then the number of pins
 abbrev pub gate_statement : Named → List Tok → Result Stmt Refusal

@@ -1,10 +1,13 @@
 // The statement of a netlist's line.
-ghost use Rattle.std.specs.Prelude.{◌≡◌, ◌≤◌, true, IfOk, Ok};
-ghost use Rattle.netlist.specs.Tokens.{seen, left, toks, first, after};
-ghost use Rattle.netlist.specs.Statements.{named, told, stated, label, want_name, want, one_name, next_pin, pins, want_kind, gate_statement, kind_of, form_of, statement_of, fitted};
+ghost use Rattle.std.specs.Prelude.{◌≡◌, true, Ok};
+ghost use Rattle.netlist.specs.Tokens.{seen, toks, after};
+ghost use Rattle.netlist.specs.Statements.{named, told, stated, want_name, want, one_name, next_pin, pins, pin_labels, pins_left, want_kind, gate_statement, form_of, statement_of};
+
+mod pins;
 
 use crate::tokens::{Scanner, Sort, Token};
 use circuit::{Kind, Place, Refusal};
+pub(crate) use pins::Pins;
 
 // A name as a part of the text, with its place.
 #[derive(Clone, Copy)]
@@ -13,11 +16,22 @@ pub(crate) struct Label<'t> {
     pub(crate) place: Place,
 }
 
-// A gate's pins: how many, and the rest of the line from the first of them on.
-#[derive(Clone, Copy)]
-pub(crate) struct Pins<'t> {
-    pub(crate) count: usize,
-    pub(crate) scanner: Scanner<'t>,
+// The names of the pins that are left.
+#[derive(Drop)]
+pub(crate) struct Labels<'t> {
+    count: usize,
+    scanner: Scanner<'t>,
+}
+
+impl<'t> From<Token<'t>> for Label<'t> {
+    ghost from_gives = { λ token label. (label.bytes ≡ token.bytes) × (label.place ≡ token.place) };
+
+    fn from(token: Token<'t>) -> Label<'t> {
+        Label {
+            bytes: token.bytes,
+            place: token.place,
+        }
+    }
 }
 
 #[derive(Clone, Copy)]
@@ -26,26 +40,24 @@ pub(crate) enum Statement<'t> {
     Blank,
     Input(Label<'t>),
     Output(Label<'t>),
-    Gate(Label<'t>, Kind, Pins<'t>),
+    Gate(Label<'t>, Pins<'t>),
 }
 
 fn want(token: Token<'_>, sort: Sort) -> Result<(), Refusal>
     ensures { result ≡ want (seen token.entry) sort }
 {
-    if token.sort() == sort {
+    if token.sort == sort {
         Ok(())
     } else {
-        Err(Refusal::Misform(token.place()))
+        Err(Refusal::Misform(token.place))
     }
 }
 
 fn want_name<'t>(token: Token<'t>) -> Result<Label<'t>, Refusal>
     ensures { told result ≡ want_name (seen token.entry) }
 {
-    match token {
-        Token::Name(bytes, place) => Ok(Label { bytes, place }),
-        _ => Err(Refusal::Misform(token.place())),
-    }
+    want(token, Sort::Name)?;
+    Ok(Label::from(token))
 }
 
 // A name in brackets, and nothing after it.
@@ -65,63 +77,41 @@ fn next_pin(sc: &mut Scanner<'_>) -> Result<bool, Refusal>
     ensures rest { next_pin (toks sc.old) ≡ Ok true → toks sc.new ≡ after (after (toks sc.old)) }
 {
     let sign = sc.next_token();
-    match sign {
-        Token::Comma(_, _) => {
+    match sign.sort {
+        Sort::Comma => {
             want_name(sc.next_token())?;
             Ok(true)
         }
-        Token::Close(_, _) => {
+        Sort::Close => {
             want(sc.next_token(), Sort::End)?;
             Ok(false)
         }
-        _ => Err(Refusal::Misform(sign.place())),
+        _ => Err(Refusal::Misform(sign.place)),
     }
 }
 
 // How many pins stand after an opening sign, up to the line's end.
 fn read_pins(sc: &mut Scanner<'_>) -> Result<usize, Refusal>
-    requires { left sc.old ≤ 65536 }
     ensures { result ≡ pins (toks sc.old) }
 {
     want_name(sc.next_token())?;
     let mut count = 1;
+    // An iterator whose steps may be refused would be no plainer.
     while next_pin(sc)? {
         count += 1;
     }
     Ok(count)
 }
 
-// The kind that a word names, by its bytes, in capitals only.
-fn read_kind(word: &[u8]) -> Option<Kind>
-    ensures { result ≡ kind_of word.now }
-{
-    match word {
-        [b'A', b'N', b'D'] => Some(Kind::And),
-        [b'N', b'A', b'N', b'D'] => Some(Kind::Nand),
-        [b'O', b'R'] => Some(Kind::Or),
-        [b'N', b'O', b'R'] => Some(Kind::Nor),
-        [b'X', b'O', b'R'] => Some(Kind::Xor),
-        [b'X', b'N', b'O', b'R'] => Some(Kind::Xnor),
-        [b'N', b'O', b'T'] => Some(Kind::Not),
-        [b'B', b'U', b'F', b'F'] => Some(Kind::Buff),
-        _ => None,
-    }
-}
-
 fn want_kind(word: Label<'_>) -> Result<Kind, Refusal>
     ensures { result ≡ want_kind (named word.entry) }
 {
-    match read_kind(word.bytes) {
-        Some(kind) => Ok(kind),
-        None => Err(Refusal::NoKind(word.place)),
-    }
+    Kind::try_from(word.bytes).or(Err(Refusal::NoKind(word.place)))
 }
 
 // What stands after the name of a line that a gate drives: the form first, then the kind, then the number of pins.
 fn read_gate<'t>(name: Label<'t>, sc: &mut Scanner<'t>) -> Result<Statement<'t>, Refusal>
-    requires { left sc.old ≤ 65536 }
-    ensures value { stated result ≡ gate_statement (named name.entry) (toks sc.old) }
-    ensures fits { IfOk result (λ s. fitted s ≡ true) }
+    ensures { stated result ≡ gate_statement (named name.entry) (toks sc.old) }
 {
     want(sc.next_token(), Sort::Equals)?;
     let word = want_name(sc.next_token())?;
@@ -132,7 +122,12 @@ fn read_gate<'t>(name: Label<'t>, sc: &mut Scanner<'t>) -> Result<Statement<'t>,
     if !kind.takes(count) {
         return Err(Refusal::WrongPins(word.place));
     }
-    Ok(Statement::Gate(name, kind, Pins { count, scanner }))
+    let pins = Pins {
+        kind,
+        count,
+        scanner,
+    };
+    Ok(Statement::Gate(name, pins))
 }
 
 #[derive(Clone, Copy)]
@@ -143,25 +138,25 @@ enum Form {
 }
 
 // A first word INPUT or OUTPUT settles the form.
-fn settle(word: &[u8]) -> Form
-    ensures { result ≡ form_of word.now }
-{
-    match word {
-        [b'I', b'N', b'P', b'U', b'T'] => Form::OneInput,
-        [b'O', b'U', b'T', b'P', b'U', b'T'] => Form::OneOutput,
-        _ => Form::OneGate,
+impl From<&[u8]> for Form {
+    ghost from_gives = { λ word form. form ≡ form_of word.now };
+
+    fn from(word: &[u8]) -> Form {
+        match word {
+            b"INPUT" => Form::OneInput,
+            b"OUTPUT" => Form::OneOutput,
+            _ => Form::OneGate,
+        }
     }
 }
 
 pub(crate) fn read_statement<'t>(sc: &mut Scanner<'t>) -> Result<Statement<'t>, Refusal>
-    requires { left sc.old ≤ 65536 }
-    ensures value { stated result ≡ statement_of (toks sc.old) }
-    ensures fits { IfOk result (λ s. fitted s ≡ true) }
+    ensures { stated result ≡ statement_of (toks sc.old) }
 {
     let head = sc.next_token();
-    match head {
-        Token::End(_) => Ok(Statement::Blank),
-        Token::Name(bytes, place) => match settle(bytes) {
+    match head.sort {
+        Sort::End => Ok(Statement::Blank),
+        Sort::Name => match Form::from(head.bytes) {
             Form::OneInput => {
                 let name = one_name(sc)?;
                 Ok(Statement::Input(name))
@@ -170,21 +165,37 @@ pub(crate) fn read_statement<'t>(sc: &mut Scanner<'t>) -> Result<Statement<'t>, 
                 let name = one_name(sc)?;
                 Ok(Statement::Output(name))
             }
-            Form::OneGate => read_gate(Label { bytes, place }, sc),
+            Form::OneGate => read_gate(Label::from(head), sc),
         },
-        _ => Err(Refusal::Misform(head.place())),
+        _ => Err(Refusal::Misform(head.place)),
     }
 }
 
-// The name of the next pin; the sign after it is passed over.
-pub(crate) fn next_label<'t>(sc: &mut Scanner<'t>) -> Label<'t>
-    ensures label { named result ≡ label (first (toks sc.old)) }
-    ensures rest { toks sc.new ≡ after (after (toks sc.old)) }
-{
-    let name = sc.next_token();
-    let _sign = sc.next_token();
-    Label {
-        bytes: name.bytes(),
-        place: name.place(),
+impl<'t> Pins<'t> {
+    pub(crate) fn labels(self) -> Labels<'t>
+        ensures { pins_left result ≡ pin_labels self.entry }
+    {
+        Labels {
+            count: self.count,
+            scanner: self.scanner,
+        }
+    }
+}
+
+impl<'t> Iterator for Labels<'t> {
+    ghost use Rattle.std.specs.Iterator.{YieldsFirstBy, at_most};
+
+    type Item = Label<'t>;
+
+    ghost next_gives = { YieldsFirstBy named pins_left };
+
+    ghost remaining = { λ s. at_most s.count };
+
+    // A name; the sign after it is passed over.
+    fn next(&mut self) -> Option<Label<'t>> {
+        self.count = self.count.checked_sub(1)?;
+        let name = self.scanner.next_token();
+        let _sign = self.scanner.next_token();
+        Some(Label::from(name))
     }
 }

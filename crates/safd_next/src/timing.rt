@@ -2,6 +2,7 @@
 use circuit::Circuit;
 use method::Method;
 use simulation::{Listed, simulate};
+use std::rt::Clock;
 use std::time::Instant;
 
 // One number more in a checksum.
@@ -20,10 +21,9 @@ fn checksum<M: Method>(
     let mut sum = 0;
     for vector in vectors {
         if let Ok(good) = simulate(circuit, listed, *vector, work, row) {
-            sum = sum_on(sum, good);
-            for entry in &row[..] {
-                sum = sum_on(sum, *entry);
-            }
+            sum = row
+                .iter()
+                .fold(sum_on(sum, good), |sum, entry| sum_on(sum, *entry));
         }
     }
     sum
@@ -31,7 +31,7 @@ fn checksum<M: Method>(
 
 // Prints the microseconds that a method takes and the checksum of what it files.
 pub(crate) fn time_method<M: Method>(
-    rt: &HostRuntime,
+    rt: &(impl Clock + Print + AllocGlobal),
     name: &str,
     circuit: &Circuit,
     listed: &[Listed],

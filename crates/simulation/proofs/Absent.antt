@@ -1,7 +1,7 @@
 -- Effects that agree at a circuit's own sites, and a fault at a site that it lacks.
-use Rattle.std.proofs.Common.{◌≡◌, ℕ, suc, ◌+◌, ◌<◌, Bool, true, false, cond, ◌&&◌, eqb, List, [], ◌∷◌, ◌++◌, length, get_or, take, Some, None, sym, refl, ap, ◌∙◌, ap₂, ⊎_elim, zero-add, arith}
+use Rattle.std.proofs.Common.{◌≡◌, ℕ, suc, ◌+◌, ◌<◌, Bool, true, false, cond, ◌&&◌, eqb, List, [], ◌∷◌, ◌++◌, length, get_or, Some, None, sym, refl, ap, ◌∙◌, ap₂, ⊎_elim, zero-add, arith}
 use Rattle.std.specs.List.{slice_get}
-use Rattle.std.proofs.lemmas.List.{length_push, length-take}
+use Rattle.std.proofs.lemmas.List.{length_push}
 use Rattle.std.proofs.lemmas.Option.{slice_get-get_or}
 use Rattle.std.proofs.lemmas.Bool.{cases_eq, ne_eqb, ltb-false}
 use Rattle.circuit.specs.Machines.{Logic, Effect, forced, pins_seen, stem_value, value_at, values_from, same_site, effect, binary, bit_of, word, word_from}
@@ -28,9 +28,9 @@ module _ {V : Type 0} (g : Logic V) (e f : Effect V) (given : ℕ → V) where
   stem_agree seen i (Input j) stem pins = ap (λ o. forced o (given j)) stem
   stem_agree seen i (Gate x) stem pins =
       ap₂ (λ o vs. forced o (g.gate x.kind vs)) stem
-      (pins_agree seen i 0 (take x.count x.pins) (λ p lt.
+      (pins_agree seen i 0 x.pins (λ p lt.
       let at : 0 + p ≡ p = omega arith in
-      ap (e.pin i) at ∙ pins p (omega (arith, length-take x.count x.pins)) ∙ ap (f.pin i) (sym at)))
+      ap (e.pin i) at ∙ pins p lt ∙ ap (f.pin i) (sym at)))
 
   values_agree : (vs : List V) (ls : List Line) → ((i : ℕ) → i < length ls → e.stem (length vs + i) ≡ f.stem (length vs + i))
       → ((i p : ℕ) → i < length ls → p < pin_count (get_or ls i blank) → e.pin (length vs + i) p ≡ f.pin (length vs + i) p) → values_from g e given vs ls ≡ values_from g f given vs ls

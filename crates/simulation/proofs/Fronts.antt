@@ -1,5 +1,6 @@
 -- Which of the listed faults one batch takes.
-use Rattle.std.proofs.Common.{◌≡◌, ℕ, suc, ◌+◌, ◌-◌, ◌<◌, ◌≤◌, Bool, true, false, cond, eqb, List, [], ◌∷◌, ◌++◌, length, get_or, take, drop, sym, refl, ap, ◌∙◌, subst, ⊎_elim, arith}
+use Rattle.std.proofs.Common.{◌≡◌, ℕ, suc, ◌+◌, ◌-◌, ◌<◌, ◌≤◌, Bool, true, false, not, cond, eqb, Option, Some, None, List, [], ◌∷◌, ◌++◌, length, get_or, take, drop, sym, refl, ap, ◌∙◌, subst, ⊎_elim, zero-add, arith}
+use Rattle.std.specs.List.{slice_get, filter, enumerate_from}
 use Rattle.std.proofs.lemmas.List.{at_drop_more, length-append}
 use Rattle.std.proofs.lemmas.Bool.{cases_eq, cases_Bool, eq-eqb, ne_eqb}
 use Rattle.circuit.specs.declared.faults.Fault.{Fault}
@@ -83,20 +84,38 @@ front_some k (x ∷ xs) pos h =
     (λ (e : x.dropped ≡ false). omega (arith, on_more k x xs e (λ z. omega arith)))
     (cases_Bool x.dropped)
 
+-- the number of an entry, or another where there is none
+abbrev pub place : ℕ → Option (ℕ × Listed) → ℕ
+place n None = n
+place n (Some x) = x.0
+
+-- a batch ends at the undropped fault that finds k others there
+nth_front : (k n : ℕ) (xs : List Listed) → place (n + length xs) (slice_get (filter (λ y. not y.1.dropped) (enumerate_from n xs)) k) ≡ n + front k xs
+nth_front k n [] = refl
+nth_front k n (x ∷ xs) =
+    let left = filter (λ y. not y.1.dropped) (enumerate_from (n + 1) xs) in
+    let on : n + length (x ∷ xs) ≡ n + 1 + length xs = omega arith in
+    ⊎_elim
+    (λ (e : x.dropped ≡ true).
+    ap (λ b. place (n + length (x ∷ xs)) (slice_get (cond (not b) ((n, x) ∷ left) left) k)) e
+    ∙ ap (λ m. place m (slice_get left k)) on ∙ omega (arith, nth_front k (n + 1) xs, on_dropped k x xs e))
+    (λ (e : x.dropped ≡ false).
+    ap (λ b. place (n + length (x ∷ xs)) (slice_get (cond (not b) ((n, x) ∷ left) left) k)) e
+    ∙ ⊎_elim
+    (λ (z : k ≡ 0). ap (λ j. place (n + length (x ∷ xs)) (slice_get ((n, x) ∷ left) j)) z ∙ omega (arith, on_full k x xs e z))
+    (λ (ne : k ≡ 0 → ⊥).
+    let back : suc (k - 1) ≡ k = omega (arith, ne) in
+    ap (λ j. place (n + length (x ∷ xs)) (slice_get ((n, x) ∷ left) j)) (sym back) ∙ ap (λ m. place m (slice_get left (k - 1))) on
+    ∙ omega (arith, nth_front (k - 1) (n + 1) xs, on_more k x xs e ne))
+    (cases_eq k 0))
+    (cases_Bool x.dropped)
+
+pub front_nth : (k : ℕ) (xs : List Listed) → place (length xs) (slice_get (filter (λ y. not y.1.dropped) (enumerate_from 0 xs)) k) ≡ front k xs
+front_nth k xs =
+    ap (λ n. place n (slice_get (filter (λ y. not y.1.dropped) (enumerate_from 0 xs)) k)) (sym (zero-add (length xs))) ∙ nth_front k 0 xs ∙ zero-add (front k xs)
+
 -- what is left of a list, at its first fault
 module _ (xs : List Listed) (i : ℕ) (x : Listed) (h : i < length xs) where
-  pub front_dropped : (k : ℕ) → (get_or xs i x).dropped ≡ true → front k (drop i xs) ≡ suc (front k (drop (i + 1) xs))
-  front_dropped k e = at_drop_more (front k) xs i x h ∙ ap (λ b. cond b (suc (front k (drop (i + 1) xs))) (cond (eqb k 0) 0 (suc (front (k - 1) (drop (i + 1) xs))))) e
-
-  front_live : (k : ℕ) → (get_or xs i x).dropped ≡ false → front k (drop i xs) ≡ cond (eqb k 0) 0 (suc (front (k - 1) (drop (i + 1) xs)))
-  front_live k e = at_drop_more (front k) xs i x h ∙ ap (λ b. cond b (suc (front k (drop (i + 1) xs))) (cond (eqb k 0) 0 (suc (front (k - 1) (drop (i + 1) xs))))) e
-
-  pub front_full : (k : ℕ) → (get_or xs i x).dropped ≡ false → k ≡ 0 → front k (drop i xs) ≡ 0
-  front_full k e z = front_live k e ∙ ap (λ b. cond b 0 (suc (front (k - 1) (drop (i + 1) xs)))) (eq-eqb k 0 z)
-
-  pub front_more : (k : ℕ) → (get_or xs i x).dropped ≡ false → (k ≡ 0 → ⊥) → front k (drop i xs) ≡ suc (front (k - 1) (drop (i + 1) xs))
-  front_more k e ne = front_live k e ∙ ap (λ b. cond b 0 (suc (front (k - 1) (drop (i + 1) xs)))) (ne_eqb k 0 ne)
-
   pub live_dropped : (get_or xs i x).dropped ≡ true → live (drop i xs) ≡ live (drop (i + 1) xs)
   live_dropped e = at_drop_more live xs i x h ∙ ap (λ b. cond b (live (drop (i + 1) xs)) ((get_or xs i x).fault ∷ live (drop (i + 1) xs))) e
 

@@ -1,15 +1,15 @@
--- Along a line's chain: each lane that was passed holds what its machine forces.
-use Rattle.std.proofs.Common.{◌≡◌, ℕ, zero, suc, ◌-◌, ◌<◌, ◌≤◌, Bool, true, false, cond, ◌&&◌, eqb, ◌≢◌, List, map, length, get_or, take, Some, None, sym, refl, ap, ◌∙◌, subst, ⊎_elim, arith}
+-- The faults at a line, one after the other: each lane holds what its machine forces.
+use Rattle.std.proofs.Common.{◌≡◌, ℕ, zero, suc, ◌<◌, ◌≤◌, Bool, true, false, cond, ◌&&◌, eqb, List, [], ◌∷◌, map, length, get_or, take, Some, None, sym, refl, ap, ◌∙◌, ⊎_elim, add-one, arith}
 use Rattle.std.proofs.lemmas.List.{get_or-map, get_or_past, get_or-take, length-map, length-take-le}
+use Rattle.std.proofs.Math.Seq.{take-length}
 use Rattle.std.proofs.lemmas.Bool.{cases_eq, cases_lt, eq-eqb, ne_eqb, eqb-true, and_parts, cases_Bool, both_ways}
 use Rattle.circuit.specs.Machines.{same_site, forces, forced}
 use Rattle.circuit.specs.declared.faults.Site.{Site}
 use Rattle.circuit.specs.declared.faults.Site.TheVariants.{Stem, Pin}
 use Rattle.circuit.specs.declared.faults.Fault.{Fault}
-use Rattle.simulation.specs.declared.batches.Batch.{Batch}
 use Rattle.circuit.specs.Plans.{line_of}
-use Rattle.simulation.specs.Lanes.{machine_at, line_at, latest, no_fault}
-use Rattle.simulation.proofs.Chains.{latest_le, latest_there, latest_past}
+use Rattle.simulation.specs.Lanes.{machine_at, line_at, latest, at_line, left, no_fault}
+use Rattle.simulation.proofs.Chains.{at_hit, at_miss, left_latest}
 
 -- lane i + 1 of a batch has fault i, and a lane past the last none
 pub machine_of : (fs : List Fault) (i : ℕ) → i < length fs → machine_at fs (suc i) ≡ Some (get_or fs i no_fault)
@@ -30,91 +30,70 @@ pub forces_other : (f : Fault) (s : Site) → (line_of f.site ≡ line_of s → 
 forces_other f s ne =
     ⊎_elim (λ (e : same_site f.site s ≡ true). absurd (ne (site_line f.site s e))) (λ (e : same_site f.site s ≡ false). rw e) (cases_Bool (same_site f.site s))
 
-pub roomy : (b : Batch) → b.count ≤ length b.faults
-roomy b = omega (arith, b.few, b.sized)
+-- a lane's value after the faults, each in its lane, that sit at the site
+abbrev pub stuck_by : Site → ℕ → Bool → List (ℕ × Fault) → Bool
+stuck_by s k v [] = v
+stuck_by s k v (x ∷ xs) = stuck_by s k (cond (eqb k x.0 && same_site x.1.site s) x.1.stuck v) xs
 
-module _ (fs : List Fault) (n : ℕ) (long : n ≤ length fs) (s : Site) where
-  -- a lane without fault at the site's line holds what it held
-  untouched : (i : ℕ) → (i < n → line_at fs i ≡ line_of s → ⊥) → forces (machine_at (take n fs) (suc i)) s ≡ None
-  untouched i ne =
-      let m = length-take-le n fs long in
+module _ (fs : List Fault) (s : Site) where
+  -- one fault more changes its own lane's machine alone
+  same_machine : (n k : ℕ) → n < length fs → (k ≡ suc n → ⊥) → machine_at (take n fs) k ≡ machine_at (take (suc n) fs) k
+  same_machine n zero lt ne = refl
+  same_machine n (suc i) lt ne =
+      let short = length-take-le n fs (omega arith) in
+      let long = length-take-le (suc n) fs (omega arith) in
       ⊎_elim
-      (λ (lt : i < n).
-      ap (λ x. forces x s) (machine_of (take n fs) i (omega arith) ∙ ap Some (get_or-take n fs i no_fault lt)) ∙ forces_other (get_or fs i no_fault) s (ne lt))
-      (λ (le : n ≤ i). ap (λ x. forces x s) (machine_past (take n fs) i (omega arith)))
+      (λ (low : i < n).
+      machine_of (take n fs) i (omega arith) ∙ ap Some (get_or-take n fs i no_fault low)
+      ∙ sym (machine_of (take (suc n) fs) i (omega arith) ∙ ap Some (get_or-take (suc n) fs i no_fault (omega arith))))
+      (λ (high : n ≤ i). machine_past (take n fs) i (omega arith) ∙ sym (machine_past (take (suc n) fs) i (omega (arith, ne))))
       (cases_lt i n)
 
+  none_yet : (n : ℕ) → n < length fs → machine_at (take n fs) (suc n) ≡ None
+  none_yet n lt = machine_past (take n fs) n (omega (arith, length-take-le n fs (omega arith)))
+
+  own : (n : ℕ) → n < length fs → machine_at (take (suc n) fs) (suc n) ≡ Some (get_or fs n no_fault)
+  own n lt = machine_of (take (suc n) fs) n (omega (arith, length-take-le (suc n) fs (omega arith))) ∙ ap Some (get_or-take (suc n) fs n no_fault (omega arith))
+
+  pick : (x y z : Bool) → cond x y z ≡ forced (cond x (Some y) None) z
+  pick true y z = refl
+  pick false y z = refl
+
+  -- the first faults at the site's line stick the site as the lane's machine of them does
+  stuck_some : (n : ℕ) → n ≤ length fs → (k : ℕ) (v : Bool) → stuck_by s k v (at_line fs (line_of s) n) ≡ forced (forces (machine_at (take n fs) k) s) v
+  stuck_some zero le zero v = refl
+  stuck_some zero le (suc k) v = refl
+  stuck_some (suc n) le k v =
+      let f = get_or fs n no_fault in
+      let stick : Bool → Bool = λ b. cond (b && same_site (get_or fs n no_fault).site s) (get_or fs n no_fault).stuck v in
+      ⊎_elim
+      (λ (hit : line_at fs n ≡ line_of s).
+      ap (stuck_by s k v) (at_hit fs (line_of s) n hit) ∙ ap (λ j. stuck_by s k (stick (eqb k j)) (at_line fs (line_of s) n)) (add-one n) ∙ stuck_some n (omega arith) k (stick (eqb k (suc n)))
+      ∙ ⊎_elim
+      (λ (at : k ≡ suc n).
+      ap (λ b. forced (forces (machine_at (take n fs) k) s) (stick b)) (eq-eqb k (suc n) at)
+      ∙ ap (λ j. forced (forces (machine_at (take n fs) j) s) (stick true)) at ∙ ap (λ m. forced (forces m s) (stick true)) (none_yet n (omega arith))
+      ∙ pick (same_site f.site s) f.stuck v ∙ ap (λ m. forced (forces m s) v) (sym (own n (omega arith)))
+      ∙ ap (λ j. forced (forces (machine_at (take (suc n) fs) j) s) v) (sym at))
+      (λ (off : k ≡ suc n → ⊥).
+      ap (λ b. forced (forces (machine_at (take n fs) k) s) (stick b)) (ne_eqb k (suc n) off)
+      ∙ ap (λ m. forced (forces m s) v) (same_machine n k (omega arith) off))
+      (cases_eq k (suc n)))
+      (λ (miss : line_at fs n ≡ line_of s → ⊥).
+      ap (stuck_by s k v) (at_miss fs (line_of s) n miss) ∙ stuck_some n (omega arith) k v
+      ∙ ⊎_elim
+      (λ (at : k ≡ suc n).
+      ap (λ j. forced (forces (machine_at (take n fs) j) s) v) at ∙ ap (λ m. forced (forces m s) v) (none_yet n (omega arith))
+      ∙ ap (λ o. forced o v) (sym (forces_other f s miss)) ∙ ap (λ m. forced (forces m s) v) (sym (own n (omega arith)))
+      ∙ ap (λ j. forced (forces (machine_at (take (suc n) fs) j) s) v) (sym at))
+      (λ (off : k ≡ suc n → ⊥). ap (λ m. forced (forces m s) v) (same_machine n k (omega arith) off))
+      (cases_eq k (suc n)))
+      (cases_eq (line_at fs n) (line_of s))
+
+  -- the faults at the site's line stick the site as the lane's machine does
+  pub stuck_all : (k : ℕ) (v : Bool) → stuck_by s k v (at_line fs (line_of s) (length fs)) ≡ forced (forces (machine_at fs k) s) v
+  stuck_all k v = stuck_some (length fs) (omega arith) k v ∙ ap (λ gs. forced (forces (machine_at gs k) s) v) (take-length fs)
+
   -- where no fault of the batch sits at the site's line, no machine forces the site
-  pub free_site : latest fs (line_of s) n ≡ 0 → (l : ℕ) → forces (machine_at (take n fs) l) s ≡ None
-  free_site none zero = refl
-  free_site none (suc i) = untouched i (λ in'. latest_past fs (line_of s) n i in' (omega arith))
-
-  module _ (count : ℕ) (old : ℕ → Bool) where
-    -- the chain was followed down to the lane
-    pub record Passed (val : ℕ → Bool) (lane : ℕ) : Type 0 where
-      pub within : lane ≤ n
-      pub there : 0 < lane → line_at fs (lane - 1) ≡ line_of s
-      pub waiting : (k : ℕ) → k ≤ count → k ≤ lane → val k ≡ old k
-      pub done : (k : ℕ) → k ≤ count → lane < k → val k ≡ forced (forces (machine_at (take n fs) k) s) (old k)
-
-    still : (i : ℕ) → (i < n → line_at fs i ≡ line_of s → ⊥) → old (suc i) ≡ forced (forces (machine_at (take n fs) (suc i)) s) (old (suc i))
-    still i ne = sym (ap (λ o. forced o (old (suc i))) (untouched i ne))
-
-    pub passed_none : (lane : ℕ) → lane ≡ latest fs (line_of s) n → Passed old lane
-    passed_none lane e =
-        rw e
-        (record {
-          within = latest_le fs (line_of s) n;
-          there = latest_there fs (line_of s) n;
-          waiting = λ k _ _. refl;
-          done = none_done;
-        })
-      where
-        none_done : (k : ℕ) → k ≤ count → latest fs (line_of s) n < k → old k ≡ forced (forces (machine_at (take n fs) k) s) (old k)
-        none_done zero h lt = absurd (omega arith)
-        none_done (suc i) h lt = still i (λ in'. latest_past fs (line_of s) n i in' (omega arith))
-
-    -- what the lane's own machine forces
-    own : (lane : ℕ) (b : Bool) → 0 < lane → lane ≤ n → same_site (get_or fs (lane - 1) no_fault).site s ≡ b → forces (machine_at (take n fs) lane) s ≡ cond b (Some (get_or fs (lane - 1) no_fault).stuck) None
-    own zero b pos le e = absurd (omega arith)
-    own (suc i) b pos le e =
-        let m = length-take-le n fs long in
-        let at : suc i - 1 ≡ i = omega arith in
-        ap (λ x. forces x s) (machine_of (take n fs) i (omega arith) ∙ ap Some (get_or-take n fs i no_fault (omega arith)))
-        ∙ ap (λ x. cond x (Some (get_or fs i no_fault).stuck) None) (ap (λ x. same_site (get_or fs x no_fault).site s) (sym at) ∙ e)
-        ∙ ap (λ x. cond b (Some (get_or fs x no_fault).stuck) None) (sym at)
-
-    pub passed_one : (val val' : ℕ → Bool) (lane next : ℕ) (b : Bool) → 0 < lane → same_site (get_or fs (lane - 1) no_fault).site s ≡ b
-        → ((k : ℕ) → k ≤ count → val' k ≡ cond (eqb k lane && b) (get_or fs (lane - 1) no_fault).stuck (val k))
-        → next ≡ latest fs (line_of s) (lane - 1) → Passed val lane → Passed val' next
-    passed_one val val' lane next b pos same step down p =
-        let low : next < lane = omega (arith, latest_le fs (line_of s) (lane - 1)) in
-        let off : (k : ℕ) → k ≤ count → k ≢ lane → val' k ≡ val k = λ k h ne. step k h ∙ ap (λ x. cond (x && b) (get_or fs (lane - 1) no_fault).stuck (val k)) (ne_eqb k lane ne) in
-        let on : lane ≤ count → val' lane ≡ cond b (get_or fs (lane - 1) no_fault).stuck (val lane) = λ h. step lane h ∙ ap (λ x. cond (x && b) (get_or fs (lane - 1) no_fault).stuck (val lane)) (eq-eqb lane lane refl) in
-        record {
-          within = omega (arith, p.within);
-          there = λ h. ap (λ x. line_at fs (x - 1)) down ∙ latest_there fs (line_of s) (lane - 1) (omega arith);
-          waiting = λ k h le. off k h (λ e. omega arith) ∙ p.waiting k h (omega arith);
-          done = λ k h lt. ⊎_elim
-              (λ (e : k ≡ lane). subst (λ x. val' x ≡ forced (forces (machine_at (take n fs) x) s) (old x)) (sym e) (at_lane on (omega arith)))
-              (λ (ne : k ≡ lane → ⊥). off k h ne ∙ ⊎_elim (λ (under : k < lane). p.waiting k h (omega arith) ∙ between k under lt) (λ (over : lane ≤ k). p.done k h (omega (arith, ne))) (cases_lt k lane))
-              (cases_eq k lane);
-        }
-      where
-        pick : (x : Bool) (y z : Bool) → cond x y z ≡ forced (cond x (Some y) None) z
-        pick true y z = refl
-        pick false y z = refl
-
-        at_lane : (lane ≤ count → val' lane ≡ cond b (get_or fs (lane - 1) no_fault).stuck (val lane)) → lane ≤ count → val' lane ≡ forced (forces (machine_at (take n fs) lane) s) (old lane)
-        at_lane on h =
-            on h ∙ ap (cond b (get_or fs (lane - 1) no_fault).stuck) (p.waiting lane h (omega arith))
-            ∙ pick b (get_or fs (lane - 1) no_fault).stuck (old lane)
-            ∙ ap (λ o. forced o (old lane)) (sym (own lane b pos p.within same))
-
-        between : (k : ℕ) → k < lane → next < k → old k ≡ forced (forces (machine_at (take n fs) k) s) (old k)
-        between zero under over = absurd (omega arith)
-        between (suc i) under over = still i (λ in'. latest_past fs (line_of s) (lane - 1) i (omega arith) (omega arith))
-
-    pub passed_all : (val : ℕ → Bool) → Passed val 0 → (k : ℕ) → k ≤ count → val k ≡ forced (forces (machine_at (take n fs) k) s) (old k)
-    passed_all val p zero h = p.waiting 0 h (omega arith)
-    passed_all val p (suc k) h = p.done (suc k) h (omega arith)
+  pub none_held : latest fs (line_of s) (length fs) ≡ None → (k : ℕ) (v : Bool) → v ≡ forced (forces (machine_at fs k) s) v
+  none_held none k v = ap (stuck_by s k v) (sym (ap (left fs) none) ∙ left_latest fs (line_of s) (length fs)) ∙ stuck_all k v

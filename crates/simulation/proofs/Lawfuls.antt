@@ -2,6 +2,7 @@
 use Rattle.std.proofs.Common.{◌≡◌, ℕ, ◌+◌, ◌-◌, ◌^◌, ◌<◌, ◌≤◌, true, false, cond, length, Some, None, sym, ap, ◌∙◌, subst, ⊎_elim, arith}
 use lib.Bits.{bit_xor, xor_lt, xor_self}
 use Rattle.std.proofs.lemmas.Bool.{cases_Bool}
+use Rattle.std.proofs.Math.Nat.{pow-le-pow_right}
 use Rattle.circuit.specs.Machines.{Machine, binary, effect, bit_of, value_at, stems, word, fail_word}
 use Rattle.circuit.specs.Plans.{Plan}
 use Rattle.circuit.specs.Shape.{Fed, inputs_in}
@@ -12,11 +13,13 @@ use Rattle.simulation.specs.Rows.{X, entry}
 use Rattle.simulation.proofs.Absent.{absent_word}
 use Rattle.simulation.proofs.Settling.{settle}
 use Rattle.simulation.proofs.Strays.{lowest_some, lowest_clear}
-use Rattle.simulation.proofs.Words.{word_low, pow_up, xor_cancel}
+use Rattle.simulation.proofs.Words.{word_low, xor_cancel}
 
 module _ (p : Plan) (v : ℕ) (few : length p.outputs ≤ 63) where
   low : (m : Machine) → word p m v < 2 ^ 63
-  low m = omega (arith, word_low (value_at binary (stems m v p.lines)) p.outputs, pow_up (length p.outputs) 63 few)
+  low m =
+      let up : 2 ^ length p.outputs ≤ 2 ^ 63 = pow-le-pow_right (omega arith) few in
+      omega (arith, word_low (value_at binary (stems m v p.lines)) p.outputs, up)
 
   fail_low : (f : Fault) → fail_word p f v < 2 ^ 63
   fail_low f = xor_lt 63 (word p (Some f) v) (word p None v) (low (Some f)) (low None)

@@ -3,12 +3,12 @@ pub mod Holding
 pub mod Pads
 pub mod Walks
 pub mod Fronts
-pub mod Sums
 pub mod Entries
 pub mod Tables
 pub mod Runs
 pub mod Settling
 pub mod Words
+pub mod Sums
 pub mod Strays
 pub mod Absent
 pub mod Lawfuls

@@ -2,8 +2,10 @@
 use Rattle.std.proofs.Common.{◌≡◌, ℕ, ◌+◌, ◌-◌, ◌*◌, ◌/◌, ◌%◌, ◌<◌, ◌≤◌, List, ◌++◌, map, length, take, drop, sym, refl, ap, ◌∙◌, subst, ap₂, ⊎_elim, mod-eq_of_lt, arith}
 use native.Mathlib.Nat.{add-mod_right}
 use Rattle.std.proofs.lemmas.Nat.{div-add-mod', div_below, div-mul-add}
-use Rattle.std.proofs.lemmas.List.{take-append-drop, take-take, drop-take, drop-drop, drop_at, take_all, take_rest, length-append, length-drop, length-take-le, map-append}
+use Rattle.std.proofs.lemmas.List.{take-append-drop, take-take, drop-take, drop-drop, drop_at, take_all, take_rest, length-append, length-map, length-drop, length-take-le, map-append}
+use Rattle.std.proofs.lemmas.Slice.{take-put_mid, drop-put_mid}
 use Rattle.std.proofs.lemmas.Bool.{cases_lt}
+use borrow.Rule.Slice.PartMut.{put_mid}
 use Rattle.simulation.specs.declared.listing.Listed.{Listed}
 use Rattle.simulation.specs.Rows.{live, last_batch, front}
 use Rattle.simulation.proofs.Fronts.{live_append, fronted, front_some}
@@ -84,20 +86,22 @@ module _ (k : ℕ) (xs : List Listed) (s r : ℕ) (pos : 0 < k) (b : Begins k xs
       ap live all ∙ sym (ap (λ n. drop n (live xs)) at ∙ ap (drop (length (live (take s xs)))) parts ∙ drop_at (live (take s xs)) (live (drop s xs)) (length (live (take s xs))) refl)
 
 -- a row that was filled up to s with what F makes of the faults, filled by one part more
-module _ (F : Listed → ℕ) (xs : List Listed) (s r : ℕ) (within : s + r ≤ length xs) (row row' first : List ℕ) where
-  abbrev part : List Listed
-  part = take (s + r - s) (drop s xs)
+module _ (F : Listed → ℕ) (xs : List Listed) (s r : ℕ) (within : s + r ≤ length xs) (row new : List ℕ) (room : length xs ≤ length row)
+    (told : new ≡ map F (take (s + r - s) (drop s xs))) where
+  long : length new ≡ r
+  long = ap length told ∙ length-map (take (s + r - s) (drop s xs)) F ∙ part_length xs s r within
 
-  pub filled_more : take s row ≡ map F (take s xs) → take (s + length part) row' ≡ take s row ++ map F part → take (s + r) row' ≡ map F (take (s + r) xs)
-  filled_more done new =
-      ap (λ n. take (s + n) row') (sym (part_length xs s r within)) ∙ new ∙ ap₂ (λ ys zs. ys ++ map F zs) done (part_is xs s r)
+  pub filled_more : take s row ≡ map F (take s xs) → take (s + r) (put_mid s (s + r - s) row new) ≡ map F (take (s + r) xs)
+  filled_more done =
+      take-put_mid s (s + r - s) row new (s + r) (omega (arith, long)) (omega arith) ∙ ap₂ ◌++◌ done (told ∙ ap (map F) (part_is xs s r))
       ∙ sym (ap (map F) (take_both s r xs) ∙ map-append F (take s xs) (take r (drop s xs)))
 
-  pub rest_more : drop s row ≡ drop s first → drop (s + length part) row' ≡ drop (s + length part) row → drop (s + r) row' ≡ drop (s + r) first
-  rest_more old new =
-      subst (λ n. drop (s + n) row' ≡ drop (s + n) row) (part_length xs s r within) new ∙ sym (drop-drop r s row) ∙ ap (drop r) old ∙ drop-drop r s first
+  pub rest_more : (first : List ℕ) → drop s row ≡ drop s first → drop (s + r) (put_mid s (s + r - s) row new) ≡ drop (s + r) first
+  rest_more first old =
+      drop-put_mid s (s + r - s) row new (s + r) (omega arith) (omega arith) (omega (arith, long)) ∙ sym (drop-drop r s row) ∙ ap (drop r) old ∙ drop-drop r s first
 
-  pub filled_all : s + r ≡ length xs → take (s + r) row' ≡ map F (take (s + r) xs) → drop (s + r) row' ≡ drop (s + r) first → row' ≡ map F xs ++ drop (length xs) first
-  filled_all end front rest =
-      sym (take-append-drop (s + r) row')
-      ∙ ap₂ ◌++◌ (front ∙ ap (λ n. map F (take n xs)) end ∙ ap (map F) (take_all (length xs) xs (omega arith))) (rest ∙ ap (λ n. drop n first) end)
+  pub filled_all : (first : List ℕ) → s + r ≡ length xs → take s row ≡ map F (take s xs) → drop s row ≡ drop s first
+      → put_mid s (s + r - s) row new ≡ map F xs ++ drop (length xs) first
+  filled_all first end done old =
+      sym (take-append-drop (s + r) (put_mid s (s + r - s) row new))
+      ∙ ap₂ ◌++◌ (filled_more done ∙ ap (λ n. map F (take n xs)) end ∙ ap (map F) (take_all (length xs) xs (omega arith))) (rest_more first old ∙ ap (λ n. drop n first) end)

@@ -1,6 +1,6 @@
 -- The stems' values are what the rule gives from the values themselves, in any logic and under any effect.
-use Rattle.std.proofs.Common.{◌≡◌, ℕ, zero, suc, ◌+◌, ◌<◌, List, [], ◌∷◌, ◌++◌, length, get_or, take, sym, refl, ap, ◌∙◌, ap₂, add-zero, zero-add, arith}
-use Rattle.std.proofs.lemmas.List.{get_or_append_left, get_or_push, get_or-take, length_push, length-take}
+use Rattle.std.proofs.Common.{◌≡◌, ℕ, zero, suc, ◌+◌, ◌<◌, List, [], ◌∷◌, ◌++◌, length, get_or, sym, refl, ap, ◌∙◌, ap₂, add-zero, zero-add, arith}
+use Rattle.std.proofs.lemmas.List.{get_or_append_left, get_or_push, length_push}
 use Rattle.circuit.specs.Machines.{Logic, Effect, forced, pins_seen, stem_value, value_at, values_from, values, Settled}
 use Rattle.circuit.specs.Shape.{blank, pin_count, pin_from, Fed}
 use Rattle.circuit.specs.declared.lines.Line.{Line}
@@ -17,10 +17,7 @@ module _ {V : Type 0} (g : Logic V) (e : Effect V) (given : ℕ → V) where
   stem_same f h i (Input j) same = refl
   stem_same f h i (Gate x) same =
       ap (λ vs. forced (e.stem i) (g.gate x.kind vs))
-      (pins_same f h i 0 (take x.count x.pins) (λ q lt.
-      let low : q < x.count = omega (arith, length-take x.count x.pins) in
-      let at = get_or-take x.count x.pins q 0 low in
-      ap f at ∙ same q low ∙ ap h (sym at)))
+      (pins_same f h i 0 x.pins same)
 
   -- one line's value, where vs has those of the lines before
   abbrev next : List V → Line → V

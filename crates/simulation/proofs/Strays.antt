@@ -1,6 +1,7 @@
 -- The lowest bit past the inputs.
-use Rattle.std.proofs.Common.{◌≡◌, ℕ, zero, suc, ◌+◌, ◌*◌, ◌/◌, ◌%◌, ◌^◌, ◌<◌, ◌≤◌, true, false, cond, Some, None, sym, ap, ◌∙◌, subst, ⊎_elim, add-zero, pow-suc, arith, pow_pos}
+use Rattle.std.proofs.Common.{◌≡◌, ℕ, zero, suc, ◌+◌, ◌*◌, ◌/◌, ◌%◌, ◌^◌, ◌<◌, ◌≤◌, true, false, cond, Option, MatchOption, Some, None, refl, sym, ap, ◌∙◌, subst, ⊎_elim, add-zero, pow-suc, arith, pow_pos}
 use Rattle.std.proofs.lemmas.Nat.{div_below, div-add-mod', mod_below}
+use Rattle.std.proofs.lemmas.Option.{same_Some}
 use Rattle.std.proofs.lemmas.Bool.{cases_eq, cases_lt, cases_Bool, eqb-false}
 use Rattle.circuit.specs.Machines.{bit_of}
 use Rattle.simulation.specs.Checks.{lowest}
@@ -9,15 +10,12 @@ use Rattle.simulation.specs.Laws.{LowestPast}
 pub clash : {A : Type 0} → ◌≡◌ {A = ℕ} 0 1 → A
 clash z = absurd (omega arith)
 
-some_is : (a b : ℕ) → Some a ≡ Some b → a ≡ b
-some_is a b e = cc
-
 pub lowest_some : (m j v k : ℕ) → lowest m j v ≡ Some k → LowestPast j v k
 lowest_some zero j v k e = clash (cc)
 lowest_some (suc m) j v k e =
     ⊎_elim
     (λ (yes : bit_of v j ≡ true).
-    let at : j ≡ k = some_is j k (sym (ap (λ b. cond b (Some j) (lowest m (suc j) v)) yes) ∙ e) in
+    let at : j ≡ k = same_Some j k (sym (ap (λ b. cond b (Some j) (lowest m (suc j) v)) yes) ∙ e) in
     record { past = omega arith; set = ap (bit_of v) (sym at) ∙ yes; lowest = λ i a b. absurd (omega arith) })
     (λ (no : bit_of v j ≡ false).
     let r = lowest_some m (suc j) v k (sym (ap (λ b. cond b (Some j) (lowest m (suc j) v)) no) ∙ e) in
@@ -27,6 +25,21 @@ lowest_some (suc m) j v k e =
       lowest = λ i a b. ⊎_elim (λ (at : i ≡ j). ap (bit_of v) at ∙ no) (λ (off : i ≡ j → ⊥). r.lowest i (omega (arith, off)) b) (cases_eq i j);
     })
     (cases_Bool (bit_of v j))
+
+-- a number is the lowest bit if it is the first of a range at which the bit is 1
+pub lowest_first : (m j v e : ℕ) (r : Option ℕ) → e ≡ j + m
+    → MatchOption r ((k : ℕ) → j ≤ k → k < e → bit_of v k ≡ false) (λ i. (j ≤ i) × (i < e) × (bit_of v i ≡ true) × ((k : ℕ) → j ≤ k → k < i → bit_of v k ≡ false)) → r ≡ lowest m j v
+lowest_first zero j v e None end h = refl
+lowest_first zero j v e (Some i) end h = absurd (omega (arith, h.0, h.1))
+lowest_first (suc m) j v e None end h =
+    lowest_first m (suc j) v e None (omega arith) (λ k a b. h k (omega arith) b) ∙ sym (ap (λ b. cond b (Some j) (lowest m (suc j) v)) (h j (omega arith) (omega arith)))
+lowest_first (suc m) j v e (Some i) end h =
+    ⊎_elim
+    (λ (at : i ≡ j). ap Some at ∙ sym (ap (λ b. cond b (Some j) (lowest m (suc j) v)) (ap (bit_of v) (sym at) ∙ h.2)))
+    (λ (off : i ≡ j → ⊥).
+    lowest_first m (suc j) v e (Some i) (omega arith) (omega (arith, h.0, off), h.1, h.2, λ k a b. h.3 k (omega arith) b)
+    ∙ sym (ap (λ b. cond b (Some j) (lowest m (suc j) v)) (h.3 j (omega arith) (omega (arith, h.0, off)))))
+    (cases_eq i j)
 
 lowest_none : (m j v : ℕ) → lowest m j v ≡ None → (i : ℕ) → j ≤ i → i < j + m → bit_of v i ≡ false
 lowest_none zero j v e i a b = absurd (omega arith)

@@ -1,36 +1,41 @@
 -- One output more of a word.
-use Rattle.std.proofs.Common.{◌≡◌, ℕ, suc, ◌+◌, ◌*◌, ◌%◌, ◌^◌, ◌<◌, ◌≤◌, Bool, true, false, cond, leb, List, [], ◌∷◌, ◌++◌, length, get_or, take, sym, ap, ◌∙◌, mul_assoc, one-mul, pow-suc, zero-mul, arith, pow-add}
+use Rattle.std.proofs.Common.{◌≡◌, ℕ, suc, ◌+◌, ◌*◌, ◌^◌, ◌<◌, ◌≤◌, Bool, true, false, cond, leb, List, [], ◌∷◌, ◌++◌, length, get_or, sym, ap, ◌∙◌, length-append, arith}
 use mir.Val.{bool_byte}
-use Rattle.std.proofs.lemmas.List.{take_more, length-take-le, get_or-map}
-use Rattle.std.proofs.lemmas.Nat.{one_shl}
+use Rattle.std.proofs.lemmas.List.{get_or-map, append_assoc, length_push}
 use Rattle.std.proofs.lemmas.Bool.{cond-true, le-leb}
+use Rattle.std.proofs.Math.Nat.{pow-le-pow_right}
+use Rattle.std.proofs.Math.Seq.{get_or-append_seam}
 use Rattle.circuit.specs.Machines.{word_from, binary, value_at}
 use Rattle.simulation.specs.Lanes.{seen}
+use Rattle.simulation.proofs.Words.{word_low}
 
-shift : (b n : ℕ) → 2 * (b * 2 ^ n) ≡ b * 2 ^ suc n
-shift b n = omega (arith, mul_assoc b (2 ^ n) 2, ap (λ x. b * x) (pow-suc 2 n))
+-- the word of the last outputs, one output more before them
+pub word_step : (value : ℕ → Bool) (ks : List ℕ) (k w : ℕ) (t : Bool) → value k ≡ t → w ≡ word_from value ks → w * 2 + bool_byte t ≡ word_from value (k ∷ ks)
+word_step value ks k w true at e = ap (λ b. w * 2 + cond b 1 0) (sym at) ∙ omega (arith, e)
+word_step value ks k w false at e = ap (λ b. w * 2 + cond b 1 0) (sym at) ∙ omega (arith, e)
 
-word_push : (value : ℕ → Bool) (ks : List ℕ) (k : ℕ) → word_from value (ks ++ k ∷ []) ≡ word_from value ks + cond (value k) 1 0 * 2 ^ length ks
-word_push value [] k = omega arith
-word_push value (x ∷ ks) k = omega (arith, word_push value ks k, shift (cond (value k) 1 0) (length ks))
+-- outputs that end in ks, with k before it
+module _ (outs rest ks : List ℕ) (k : ℕ) (split : outs ≡ (rest ++ k ∷ []) ++ ks) where
+  count : length outs ≡ suc (length rest + length ks)
+  count = ap length split ∙ omega (arith, length-append (rest ++ k ∷ []) ks, length_push rest k)
 
--- the word of the first outputs, one output on
-pub word_step : (value : ℕ → Bool) (ks : List ℕ) (i w w' : ℕ) (t : Bool) → i < length ks → value (get_or ks i 0) ≡ t → w ≡ word_from value (take i ks)
-    → w' ≡ w + cond t 1 0 * 2 ^ i → w' ≡ word_from value (take (i + 1) ks)
-word_step value ks i w w' t h at e f =
-    f ∙ ap (λ x. x + cond t 1 0 * 2 ^ i) e
-    ∙ ap (λ b. word_from value (take i ks) + cond b 1 0 * 2 ^ i) (sym at)
-    ∙ ap (λ n. word_from value (take i ks) + cond (value (get_or ks i 0)) 1 0 * 2 ^ n) (sym (length-take-le i ks (omega arith)))
-    ∙ sym (ap (word_from value) (take_more ks i 0 h) ∙ word_push value (take i ks) (get_or ks i 0))
+  place : get_or outs (length rest) 0 ≡ k
+  place = ap (λ xs. get_or xs (length rest) 0) (split ∙ append_assoc rest (k ∷ []) ks) ∙ get_or-append_seam rest k ks 0
 
--- a bit moved to its place, and the sum one place on
-pub bit_shl : (t : Bool) (j : ℕ) → j < 64 → (bool_byte t * 2 ^ j) % 2 ^ 64 ≡ cond t 1 0 * 2 ^ j
-bit_shl true j h = one_shl j 64 h ∙ sym (one-mul (2 ^ j))
-bit_shl false j h = ap (λ n. n % 2 ^ 64) (zero-mul (2 ^ j)) ∙ sym (zero-mul (2 ^ j))
+  -- an output is one of the lines
+  pub output_low : (n : ℕ) → ((j : ℕ) → j < length outs → get_or outs j 0 < n) → k < n
+  output_low n shown = let lt : length rest < length outs = omega (arith, count) in omega (arith, place, shown (length rest) lt)
 
-pub sum_below : (t : Bool) (w j : ℕ) → w < 2 ^ j → w + cond t 1 0 * 2 ^ j < 2 ^ (j + 1)
-sum_below true w j h = omega (arith, one-mul (2 ^ j), pow-add 2 j 1)
-sum_below false w j h = omega (arith, zero-mul (2 ^ j), pow-add 2 j 1)
+  -- the word of ks has room for one output more
+  pub word_room : (value : ℕ → Bool) (w : ℕ) → length outs ≤ 63 → w ≡ word_from value ks → w < 2 ^ 62
+  word_room value w few e =
+      let le : length ks ≤ 62 = omega (arith, count) in
+      let up : 2 ^ length ks ≤ 2 ^ 62 = pow-le-pow_right (omega arith) le in
+      omega (arith, e, word_low value ks, up)
+
+pub byte_low : (t : Bool) → bool_byte t ≤ 1
+byte_low true = omega arith
+byte_low false = omega arith
 
 -- what `look` gave of an entry is the value seen there
 pub look_at : {A : Type 0} (lane : A → ℕ → Bool) (count l k : ℕ) (xs : List A) (x : A) (t : Bool) → l ≤ count → k < length xs → x ≡ get_or xs k x

@@ -1,8 +1,6 @@
 -- Output words and fail words.
-use Rattle.std.proofs.Common.{◌≡◌, ℕ, ◌^◌, ◌<◌, ◌≤◌, Bool, true, false, cond, List, [], ◌∷◌, length, sym, ap, ◌∙◌, ⊎_elim, pow-suc, arith}
+use Rattle.std.proofs.Common.{◌≡◌, ℕ, ◌^◌, ◌<◌, ◌≤◌, Bool, true, false, cond, List, [], ◌∷◌, length, sym, ap, ◌∙◌, pow-suc, arith}
 use lib.Bits.{bit_xor, xor_self, xor_assoc, xor_zero_r}
-use Rattle.std.proofs.lemmas.Nat.{pow_below}
-use Rattle.std.proofs.lemmas.Bool.{cases_lt}
 use Rattle.circuit.specs.Machines.{word_from}
 
 bit_low : (b : Bool) → cond b 1 0 ≤ 1
@@ -12,10 +10,6 @@ bit_low false = omega arith
 pub word_low : (value : ℕ → Bool) (ks : List ℕ) → word_from value ks < 2 ^ length ks
 word_low value [] = omega arith
 word_low value (k ∷ ks) = omega (arith, bit_low (value k), word_low value ks, pow-suc 2 (length ks))
-
-pub pow_up : (m n : ℕ) → m ≤ n → 2 ^ m ≤ 2 ^ n
-pow_up m n le =
-    ⊎_elim (λ (lt : m < n). omega (arith, pow_below m n lt)) (λ (ge : n ≤ m). let e : m ≡ n = omega arith in omega (arith, ap (λ k. 2 ^ k) e)) (cases_lt m n)
 
 pub xor_back : (a c : ℕ) → bit_xor (bit_xor a c) c ≡ a
 xor_back a c = xor_assoc a c c ∙ ap (bit_xor a) (xor_self c) ∙ xor_zero_r a

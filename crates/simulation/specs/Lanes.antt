@@ -1,9 +1,8 @@
 -- The faults of a batch in their lanes, and which of them sit at a line.
-use Rattle.std.specs.Prelude.{◌≡◌, ℕ, zero, suc, ◌≤◌, Bool, false, cond, List, ◌∷◌, map, length, get_or, take, Some, None, ◌==◌, nat_lt, slice_index, slice_index_or}
+use Rattle.std.specs.Prelude.{◌≡◌, ℕ, zero, suc, ◌+◌, ◌≤◌, Bool, false, cond, List, [], ◌∷◌, map, length, get_or, take, Some, None, Option, ◌==◌, nat_lt, slice_index, slice_index_or}
 use Rattle.circuit.specs.Gates.{filler}
 use Rattle.circuit.specs.Machines.{Machine, Effect, forced, stems, binary, value_at, word_from}
 use Rattle.circuit.specs.Plans.{line_of}
-use Rattle.circuit.specs.Shape.{least_pins, most_pins, pin_count}
 use Rattle.circuit.specs.declared.lines.Gate.{Gate as GateT}
 use Rattle.circuit.specs.declared.lines.Line.{Line}
 use Rattle.circuit.specs.declared.faults.Site.TheVariants.{Stem}
@@ -27,11 +26,7 @@ Shows lane count fs v ls work = (l : ℕ) → l ≤ count → seen lane (take (l
 
 -- pin p of the gate that drives line i, or what stands for it where the gate lacks it
 abbrev pub pin_or : Effect Bool → (ℕ → Bool) → ℕ → GateT → ℕ → Bool
-pin_or e value i g p = cond (nat_lt p g.count) (forced (e.pin i p) (value (slice_index g.pins p))) (filler g.kind)
-
--- a line's pins are as many as its kind may have
-abbrev pub Countable : Line → Type 0
-Countable l = (least_pins l ≤ pin_count l) × (pin_count l ≤ most_pins l)
+pin_or e value i g p = cond (nat_lt p (length g.pins)) (forced (e.pin i p) (value (slice_index g.pins p))) (filler g.kind)
 
 -- a list's default fault
 abbrev pub no_fault : Fault
@@ -40,7 +35,17 @@ no_fault = record { site = Stem 0; stuck = false }
 abbrev pub line_at : List Fault → ℕ → ℕ
 line_at fs i = line_of (get_or fs i no_fault).site
 
--- the last of the lanes 1 to n whose fault sits at line g, or 0 where there is none
-abbrev pub latest : List Fault → ℕ → ℕ → ℕ
-latest fs g zero = 0
-latest fs g (suc n) = cond (line_at fs n == g) (suc n) (latest fs g n)
+-- the last of the first n faults that sits at line g
+abbrev pub latest : List Fault → ℕ → ℕ → Option ℕ
+latest fs g zero = None
+latest fs g (suc n) = cond (line_at fs n == g) (Some n) (latest fs g n)
+
+-- those of the first n faults that sit at line g, the last first, each with its lane
+abbrev pub at_line : List Fault → ℕ → ℕ → List (ℕ × Fault)
+at_line fs g zero = []
+at_line fs g (suc n) = cond (line_at fs n == g) ((n + 1, slice_index_or fs n no_fault) ∷ at_line fs g n) (at_line fs g n)
+
+-- a fault of a batch, and those before it at its line
+abbrev pub left : List Fault → Option ℕ → List (ℕ × Fault)
+left fs None = []
+left fs (Some i) = (i + 1, slice_index_or fs i no_fault) ∷ at_line fs (line_at fs i) i

@@ -1,4 +1,4 @@
--- The register of refusals: number, word and place of each.
+-- The register of refusals: number, word, place and sentence of each.
 use Rattle.std.specs.Prelude.{ℕ, List, codes}
 use Rattle.simulation.specs.declared.refusals.Unfit.{Unfit}
 use Rattle.simulation.specs.declared.refusals.Unfit.TheVariants.{Stray, Short}
@@ -15,3 +15,8 @@ word_of (Short n) = codes "short"
 abbrev pub place_of : Unfit → ℕ
 place_of (Stray n) = n
 place_of (Short n) = n
+
+-- why a vector is not simulated
+abbrev pub sentence_of : Unfit → List ℕ
+sentence_of (Stray n) = codes "the vector has a bit past the inputs"
+sentence_of (Short n) = codes "a table is too short"

@@ -3,7 +3,6 @@ use Rattle.std.specs.Prelude.{ℕ, suc, ◌-◌, ◌*◌, ◌/◌, cond, List, [
 use Rattle.circuit.specs.Machines.{Machine, fail_word}
 use Rattle.circuit.specs.Plans.{Plan}
 use Rattle.circuit.specs.declared.faults.Fault.{Fault}
-use Rattle.circuit.specs.declared.lines.Line.{Line}
 use Rattle.simulation.specs.declared.listing.Listed.{Listed}
 
 -- what stands for a dropped fault: 2 ^ 64 - 1
@@ -37,7 +36,3 @@ front k (x ∷ xs) = cond x.dropped (suc (front k xs)) (cond (k == 0) 0 (suc (fr
 abbrev pub filed : (ℕ → ℕ) → ℕ → List Listed → List ℕ
 filed w l [] = []
 filed w l (x ∷ xs) = cond x.dropped (X ∷ filed w l xs) (bit_xor (w (suc l)) (w 0) ∷ filed w (suc l) xs)
-
--- a circuit of these lines and outputs, names aside
-abbrev pub nameless : List Line → List ℕ → Plan
-nameless ls outs = record { lines = ls; names = []; outputs = outs }

@@ -6,7 +6,7 @@ use circuit::Fault;
 #[derive(Clone, Copy)]
 pub struct Listed {
     pub fault: Fault,
-    // It is simulated no more.
+    // It is simulated no more. An enum would hold the same fault in both of its cases.
     pub dropped: bool,
 }
 

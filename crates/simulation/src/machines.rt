@@ -1,5 +1,5 @@
 // One machine under one vector.
-ghost use Rattle.std.specs.Prelude.{◌≡◌, length, drop, Some};
+ghost use Rattle.std.specs.Prelude.{◌≡◌, length, drop};
 ghost use Rattle.circuit.specs.Machines.{word};
 ghost use Rattle.circuit.specs.Plans.{plan};
 ghost use Rattle.simulation.specs.Checks.{checks, answered, Granted};
@@ -20,31 +20,14 @@ pub fn machine_word<M: Method>(
     work: &mut [M],
 ) -> Result<u64, Unfit>
     ensures value { result ≡ answered (checks (plan circuit.now) 0 vector (length work.old) 0) (word (plan circuit.now) machine vector) }
-    ensures shows { Granted result (Shows M.Method.lane M.Method.count (last_batch M.Method.count (only machine)) vector (plan circuit.now).lines work.new) (work.new ≡ work.old) }
+    ensures shows { Granted result (Shows M.Method.lane M.Method.LANES (last_batch M.Method.LANES (only machine)) vector (plan circuit.now).lines work.new) (work.new ≡ work.old) }
     ensures beyond { drop (length (plan circuit.now).lines) work.new ≡ drop (length (plan circuit.now).lines) work.old }
 {
-    match machine {
-        None => simulate(circuit, &[], vector, work, &mut []),
-        Some(fault) => faulty_word(circuit, fault, vector, work),
-    }
-}
-
-// The output word of the circuit with one fault.
-fn faulty_word<M: Method>(
-    circuit: &Circuit,
-    fault: Fault,
-    vector: u64,
-    work: &mut [M],
-) -> Result<u64, Unfit>
-    ensures value { result ≡ answered (checks (plan circuit.now) 0 vector (length work.old) 0) (word (plan circuit.now) (Some fault) vector) }
-    ensures shows { Granted result (Shows M.Method.lane M.Method.count (last_batch M.Method.count (only (Some fault))) vector (plan circuit.now).lines work.new) (work.new ≡ work.old) }
-    ensures beyond { drop (length (plan circuit.now).lines) work.new ≡ drop (length (plan circuit.now).lines) work.old }
-{
-    let listed = [Listed {
+    let listed = machine.map(|fault| Listed {
         fault,
         dropped: false,
-    }];
+    });
     let mut row = [0; 1];
-    let good = simulate(circuit, &listed, vector, work, &mut row)?;
+    let good = simulate(circuit, listed.as_slice(), vector, work, &mut row)?;
     Ok(row[0] ^ good)
 }

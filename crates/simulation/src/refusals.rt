@@ -1,8 +1,11 @@
 // Why a vector is not simulated.
-ghost use Rattle.std.specs.Prelude.{◌≡◌};
-ghost use Rattle.simulation.specs.Refusals.{number_of, word_of, place_of};
+ghost use Rattle.std.specs.Prelude.{◌≡◌, Some};
+ghost use Rattle.simulation.specs.Refusals.{number_of, word_of, place_of, sentence_of};
 
-#[derive(Clone, Copy, PartialEq, Eq)]
+use std::error::Error;
+use std::fmt;
+
+#[derive(Clone, Copy, Debug, PartialEq, Eq)]
 pub enum Unfit {
     // The vector has a bit past the inputs: the lowest such bit.
     Stray(usize),
@@ -11,7 +14,7 @@ pub enum Unfit {
 }
 
 impl Unfit {
-    // Its number in the register.
+    // Its number in the register: a number, since that is what is printed and looked up.
     pub fn number(self) -> u8
         ensures { result ≡ number_of self }
     {
@@ -41,3 +44,17 @@ impl Unfit {
         }
     }
 }
+
+// The refusal in a sentence.
+impl fmt::Display for Unfit {
+    ghost output = { λ unfit. Some (sentence_of unfit) };
+
+    fn fmt<W: fmt::Write>(&self, f: &mut fmt::Formatter<W>) -> fmt::Result {
+        match self {
+            Unfit::Stray(_) => write!(f, "the vector has a bit past the inputs"),
+            Unfit::Short(_) => write!(f, "a table is too short"),
+        }
+    }
+}
+
+impl Error for Unfit {}

@@ -2,50 +2,43 @@
 ghost use Rattle.std.specs.Prelude.{◌≡◌, ◌≤◌, ◌++◌, map, length, drop, None};
 ghost use Rattle.circuit.specs.Machines.{word};
 ghost use Rattle.circuit.specs.Plans.{plan};
-ghost use Rattle.circuit.specs.Shape.{Counted, Fed, Shown, inputs_in};
+ghost use Rattle.circuit.specs.Shape.{inputs_in};
 ghost use Rattle.simulation.specs.Lanes.{Shows};
-ghost use Rattle.simulation.specs.Rows.{live, last_batch, entry, nameless};
+ghost use Rattle.simulation.specs.Rows.{live, last_batch, entry};
 ghost use Rattle.simulation.specs.Laws.{Lawful};
 ghost use Rattle.simulation.specs.Checks.{stray, checks, answered, after, Granted};
 
 use crate::filing::{batch_len, run_batch};
 use crate::listing::Listed;
 use crate::refusals::Unfit;
-use circuit::{Circuit, Line};
+use circuit::Circuit;
 use method::{Method, bit};
 
-// Simulates the undropped faults, batch by batch, writes the row's entries and answers the fault-free word.
+// Simulates the undropped faults, batch by batch, writes the row's entries and answers the fault-free word. The circuit and its table
+// go on side by side to `run_batch` and `walk`: a struct that borrows both would be taken apart in each.
 pub(crate) fn run<M: Method>(
-    lines: &[Line],
-    outputs: &[u16],
+    circuit: &Circuit,
     listed: &[Listed],
     vector: u64,
     work: &mut [M],
     row: &mut [u64],
 ) -> u64
-    requires low { length lines.now ≤ 1024 }
-    requires few { length outputs.now ≤ 63 }
-    requires counted { Counted lines.now }
-    requires fed { Fed lines.now }
-    requires shown { Shown outputs.now (length lines.now) }
-    requires work { length lines.now ≤ length work.old }
+    requires work { length (plan circuit.now).lines ≤ length work.old }
     requires room { length listed.now ≤ length row.old }
-    ensures good { result ≡ word (nameless lines.now outputs.now) None vector }
-    ensures entries { row.new ≡ map (entry (nameless lines.now outputs.now) vector) listed.now ++ drop (length listed.now) row.old }
-    ensures shows { Shows M.Method.lane M.Method.count (last_batch M.Method.count (live listed.now)) vector lines.now work.new }
-    ensures beyond { drop (length lines.now) work.new ≡ drop (length lines.now) work.old }
+    ensures good { result ≡ word (plan circuit.now) None vector }
+    ensures entries { row.new ≡ map (entry (plan circuit.now) vector) listed.now ++ drop (length listed.now) row.old }
+    ensures shows { Shows M.Method.lane M.Method.LANES (last_batch M.Method.LANES (live listed.now)) vector (plan circuit.now).lines work.new }
 {
+    // A batch is as long as its faults allow, and the last may have none, so no iterator of the library's gives the parts.
     let mut start = 0;
     loop {
-        let end = start + batch_len(&listed[start..], M::lanes());
+        let end = start + batch_len(&listed[start..], M::LANES);
         let good = run_batch(
-            lines,
-            outputs,
+            circuit,
             &listed[start..end],
-            start,
             vector,
             work,
-            row,
+            &mut row[start..end],
         );
         if end == listed.len() {
             return good;
@@ -59,12 +52,7 @@ fn stray(circuit: &Circuit, vector: u64) -> Option<usize>
     ensures value { result ≡ stray (inputs_in (plan circuit.now).lines) vector }
     ensures law { Lawful (plan circuit.now) vector }
 {
-    for j in circuit.inputs()..64 {
-        if bit(vector, j) {
-            return Some(j);
-        }
-    }
-    None
+    (circuit.inputs()..64).find(|j| bit(vector, *j))
 }
 
 // Refuses a bit past the inputs, a short working table, or a short row.
@@ -102,17 +90,11 @@ pub fn simulate<M: Method>(
 ) -> Result<u64, Unfit>
     ensures value { result ≡ answered (checks (plan circuit.now) (length listed.now) vector (length work.old) (length row.old)) (word (plan circuit.now) None vector) }
     ensures entries { row.new ≡ after (checks (plan circuit.now) (length listed.now) vector (length work.old) (length row.old)) (map (entry (plan circuit.now) vector) listed.now ++ drop (length listed.now) row.old) row.old }
-    ensures shows { Granted result (Shows M.Method.lane M.Method.count (last_batch M.Method.count (live listed.now)) vector (plan circuit.now).lines work.new) (work.new ≡ work.old) }
+    ensures shows { Granted result (Shows M.Method.lane M.Method.LANES (last_batch M.Method.LANES (live listed.now)) vector (plan circuit.now).lines work.new) (work.new ≡ work.old) }
     ensures beyond { drop (length (plan circuit.now).lines) work.new ≡ drop (length (plan circuit.now).lines) work.old }
     ensures law { Lawful (plan circuit.now) vector }
 {
     check(circuit, listed.len(), vector, work.len(), row.len())?;
-    Ok(run(
-        circuit.draft.lines.as_slice(),
-        circuit.draft.outputs.as_slice(),
-        listed,
-        vector,
-        work,
-        row,
-    ))
+    let table = &mut work[..circuit.lines()];
+    Ok(run(circuit, listed, vector, table, row))
 }

@@ -13,7 +13,8 @@ use Rattle.circuit.specs.declared.faults.Site.TheVariants.{Stem, Pin}
 use Rattle.textfiles.specs.Cursors.{Spot, has, run, past, flaw}
 use Rattle.textfiles.specs.Denotes.{Names, Ends, ends, Denotes, stem, pin, fed, Faithful}
 use Rattle.textfiles.specs.Faults.{name_at, line_at, pin_at, feeders, fed_pin, bit_at, slash_at, value_at, stuck_at, site_after, fault_of}
-use Rattle.textfiles.specs.Flaws.{bind, unless, Answers}
+use Rattle.texts.specs.Steps.{bind, unless}
+use Rattle.textfiles.specs.Flaws.{Answers}
 use Rattle.textfiles.specs.Items.{each, Accepts}
 use Rattle.textfiles.specs.Writing.{value_text}
 use Rattle.textfiles.specs.declared.cursors.Class.{Class}
@@ -23,8 +24,9 @@ use Rattle.textfiles.specs.declared.flaws.ReadError.{ReadError}
 use Rattle.textfiles.specs.declared.flaws.What.{What}
 use Rattle.textfiles.specs.declared.flaws.What.TheVariants.{NoName, UnknownName, NoSign, NoSlash, NoPin, NoValue}
 use Rattle.textfiles.proofs.EachItem.{accepts}
-use Rattle.textfiles.proofs.Fronts.{leading_front, leading_none, leading_all, begins_with, begins_with_two}
-use Rattle.textfiles.proofs.Steps.{bind_ok, unless_ok, ok_or_ok}
+use Rattle.texts.proofs.Fronts.{run_front, run_none, run_all}
+use Rattle.textfiles.proofs.Fronts.{begins_with, begins_with_two}
+use Rattle.texts.proofs.Risen.{bind_ok, unless_ok, ok_or_ok}
 use Rattle.textfiles.proofs.OnePlace.{only_solely, solely_only}
 
 -- what ends in a value begins with a space, a tab or a slash
@@ -39,10 +41,10 @@ module _ (ln en : ℕ) where
 
   -- past a front of a class
   past_front : (c : Class) (cs bs : List ℕ) → AllByRecursion (λ b. has c b ≡ true) cs → has c (get_or bs 0 0) ≡ false → past c (at (cs ++ bs)) ≡ at bs
-  past_front c cs bs h stop = ap at (drop_at cs bs (run c (cs ++ bs)) (sym (leading_front (has c) cs bs h (leading_none (has c) bs stop))))
+  past_front c cs bs h stop = ap at (drop_at cs bs (run c (cs ++ bs)) (sym (run_front (has c) cs bs h (run_none (has c) bs stop))))
 
   name_front : (cs bs : List ℕ) → AllByRecursion (λ b. has Name b ≡ true) cs → has Name (get_or bs 0 0) ≡ false → name_at (at (cs ++ bs)) ≡ cs
-  name_front cs bs h stop = take_at cs bs (run Name (cs ++ bs)) (sym (leading_front (has Name) cs bs h (leading_none (has Name) bs stop)))
+  name_front cs bs h stop = take_at cs bs (run Name (cs ++ bs)) (sym (run_front (has Name) cs bs h (run_none (has Name) bs stop)))
 
   slashed : (w : What) (v : Bool) → slash_at w (at (47 ∷ value_text v)) ≡ Ok v
   slashed w false = refl
@@ -127,14 +129,14 @@ module _ (ln en : ℕ) where
   value_ok : (w : What) (bs : List ℕ) (v : Bool) → value_at w (at bs) ≡ Ok v → Ends bs v
   value_ok w bs v e =
       let k = run Space bs in
-      subst (λ (x : List ℕ). Ends x v) (ap (λ r. take k bs ++ r) (sym (slash_ok w (drop k bs) v e)) ∙ take-append-drop k bs) (ends (take k bs) (leading_all (has Space) bs))
+      subst (λ (x : List ℕ). Ends x v) (ap (λ r. take k bs ++ r) (sym (slash_ok w (drop k bs) v e)) ∙ take-append-drop k bs) (ends (take k bs) (run_all (has Space) bs))
 
   module _ (p : Plan) where
     named_line : (bs : List ℕ) (l : ℕ) → line_at p (at bs) ≡ Ok l → Names p (name_at (at bs)) l
     named_line bs l e =
         let u = unless_ok (eqb (length (name_at (at bs))) 0) (flaw (at bs) NoName) (ok_or (find p.names (name_at (at bs))) (flaw (at bs) UnknownName)) l e in
         let some = eqb-false (length (name_at (at bs))) 0 u.0 in
-        record { some = omega arith; bytes = leading_all (has Name) bs; line = ok_or_ok (find p.names (name_at (at bs))) (flaw (at bs) UnknownName) l u.1 }
+        record { some = omega arith; bytes = run_all (has Name) bs; line = ok_or_ok (find p.names (name_at (at bs))) (flaw (at bs) UnknownName) l u.1 }
 
     pin_ok : (cs : List ℕ) (l n : ℕ) → pin_at p l (at cs) ≡ Ok n → (get_or cs 0 0 ≡ 48 + n) × (n < 10) × (has_site p (Pin l n) ≡ true)
     pin_ok cs l n e =

@@ -2,12 +2,13 @@
 use Rattle.std.proofs.Common.{◌≡◌, List, [], ◌∷◌, ◌++◌, IfOk, Ok, Err, Result, sym, ap, ◌∙◌, subst}
 use Rattle.std.proofs.lemmas.List.{append_assoc, append-nil}
 use Rattle.textfiles.specs.Cursors.{Spot}
-use Rattle.textfiles.specs.Flaws.{bind, Answers}
+use Rattle.texts.specs.Steps.{bind}
+use Rattle.textfiles.specs.Flaws.{Answers}
 use Rattle.textfiles.specs.Items.{each, Each, Accepts}
 use Rattle.textfiles.specs.declared.flaws.Flaw.{Flaw}
 use Rattle.textfiles.specs.declared.flaws.ReadError.{ReadError}
 use Rattle.textfiles.specs.declared.flaws.ReadError.TheVariants.{Memory, Flawed}
-use Rattle.textfiles.proofs.Steps.{bind_ok}
+use Rattle.texts.proofs.Risen.{bind_ok}
 
 module _ {X : Type 0} (f : Spot → Result X Flaw) (R : Spot → X → Type 0) where
   each_of : ((s : Spot) (x : X) → R s x → f s ≡ Ok x) → (ys : List X) (ss : List Spot) (xs : List X) → Each R ss xs → each f ys ss ≡ Ok (ys ++ xs)

@@ -1,12 +1,12 @@
-pub mod ItemTurns
+pub mod Blanks
 pub mod BitTurns
 pub mod PinTurns
 pub mod GatePins
 pub mod Pushes
+pub mod Digits
 pub mod Fronts
 pub mod OnePlace
 pub mod Denoted
-pub mod Steps
 pub mod EachItem
 pub mod VectorLaw
 pub mod RoundTrip

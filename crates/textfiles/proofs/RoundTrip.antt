@@ -4,10 +4,10 @@ use Rattle.std.specs.Int.{is_in_range}
 use Rattle.std.specs.Char.{is_ascii_digit, is_ascii_alphabetic}
 use Rattle.std.specs.List.{prefix_len, suffix_len, AllByRecursion, slice_get}
 use Rattle.std.proofs.ByRecursion.{IsAscii-from_all}
-use Rattle.std.proofs.lemmas.Fmt.{decimal_by_steps}
+use Rattle.std.proofs.lemmas.Fmt.{decimal_digit}
 use Rattle.std.proofs.lemmas.List.{append_assoc, reverse-append, take_all}
 use Rattle.std.proofs.lemmas.Result.{IfOk-weaker}
-use Rattle.std.proofs.lemmas.Bool.{or_cases, and_parts, leb-true, ltb-true, eqb-true, ne_eqb, both_ways, or_from}
+use Rattle.std.proofs.lemmas.Bool.{or_cases, and_parts, leb-true, ltb-true, eqb-true}
 use Rattle.std.proofs.lemmas.Str.{IsUtf8-from_ascii}
 use Rattle.circuit.specs.Plans.{Plan, has_site, pins_at, line_of}
 use Rattle.circuit.specs.Shape.{Counted}
@@ -21,7 +21,8 @@ use Rattle.textfiles.specs.Faults.{fault_of}
 use Rattle.textfiles.specs.Writing.{value_text, after_name, fault_text}
 use Rattle.textfiles.specs.declared.cursors.Class.TheVariants.{Name, Blank}
 use Rattle.textfiles.proofs.Denoted.{read_denoted}
-use Rattle.textfiles.proofs.Fronts.{leading_none}
+use Rattle.texts.proofs.Fronts.{run_none}
+use Rattle.texts.proofs.NameBytes.{name_no_space}
 use Rattle.textfiles.proofs.GatePins.{at_most_four}
 
 up_to : (lo hi b : ℕ) → is_in_range lo hi b ≡ true → b ≤ hi
@@ -48,24 +49,14 @@ all_ascii (b ∷ bs) h = (name_ascii b h.0, all_ascii bs h.1)
 pub name_text : (w : List ℕ) → AllByRecursion (λ b. has Name b ≡ true) w → IsUtf8 w
 name_text w h = IsUtf8-from_ascii w (IsAscii-from_all w (all_ascii w h))
 
-differs : (b c : ℕ) → has Name b ≡ true → has Name c ≡ false → eqb b c ≡ false
-differs b c h n = ne_eqb b c (λ e. both_ways (has Name b) (ap (has Name) e ∙ n) h)
-
--- a name byte is no blank
-name_no_blank : (b : ℕ) → has Name b ≡ true → has Blank b ≡ false
-name_no_blank b h = or_from _ _ (differs b 32 h refl) (or_from _ _ (differs b 9 h refl) (differs b 13 h refl))
-
 -- an item with no blank at either end is all of its bytes
 whole_item : (l : ℕ) (bs : List ℕ) (d : ℕ) → has Blank (get_or (bs ++ d ∷ []) 0 0) ≡ false → has Blank d ≡ false → item l (bs ++ d ∷ []) ≡ record { rest = bs ++ d ∷ []; line = l; end = length (bs ++ d ∷ []) + 1 }
 whole_item l bs d first last =
     let all = bs ++ d ∷ [] in
-    let none : suffix_len (has Blank) all ≡ 0 = ap (prefix_len (has Blank)) (reverse-append bs (d ∷ [])) ∙ leading_none (has Blank) (d ∷ reverse bs) last in
+    let none : suffix_len (has Blank) all ≡ 0 = ap (prefix_len (has Blank)) (reverse-append bs (d ∷ [])) ∙ run_none (has Blank) (d ∷ reverse bs) last in
     let kept : take (shut all) all ≡ all = take_all (shut all) all (omega arith) in
     ap (λ ts. record { rest = drop (prefix_len (has Blank) ts) ts; line = l; end = length ts + 1 }) kept
-    ∙ ap (λ k. record { rest = drop k all; line = l; end = length all + 1 }) (leading_none (has Blank) all first)
-
-one_digit : (n : ℕ) → n < 10 → decimal n ≡ (48 + n) ∷ []
-one_digit n h = decimal_by_steps (λ m ds. m < 10 → ds ≡ (48 + m) ∷ []) (λ m l _. refl) (λ m ds big r small. absurd (omega arith)) n (omega arith) h
+    ∙ ap (λ k. record { rest = drop k all; line = l; end = length all + 1 }) (run_none (has Blank) all first)
 
 -- what stands after the name ends in the value, which is no blank
 last_digit : (site : Site) (v : Bool) → (bs : List ℕ) × (d : ℕ) × (after_name site v ≡ bs ++ d ∷ []) × (has Blank d ≡ false)
@@ -76,7 +67,7 @@ last_digit (Pin l n) true = (46 ∷ (decimal n ++ 47 ∷ []), 49, ap (λ r. 46 �
 
 first_no_blank : (w bs : List ℕ) → 1 ≤ length w → AllByRecursion (λ b. has Name b ≡ true) w → has Blank (get_or (w ++ bs) 0 0) ≡ false
 first_no_blank [] bs some h = absurd (omega arith)
-first_no_blank (b ∷ w) bs some h = name_no_blank b h.0
+first_no_blank (b ∷ w) bs some h = name_no_space b h.0
 
 few : (ls : List Line) (l : ℕ) (o : Option Line) → Counted ls → o ≡ slice_get ls l → pins_at o ≤ 4
 few ls l None counted e = zero-le
@@ -89,7 +80,7 @@ module _ (p : Plan) (w : List ℕ) (counted : Counted p.lines) where
       let below = ltb-true n (pins_at (slice_get p.lines l)) there in
       let four = few p.lines l (slice_get p.lines l) counted refl in
       let small : n < 10 = omega arith in
-      subst (λ (ds : List ℕ). Denotes p (w ++ 46 ∷ (ds ++ 47 ∷ value_text v)) (record { site = Pin l n; stuck = v })) (sym (one_digit n small)) (pin named small there (ends [] tt))
+      subst (λ (ds : List ℕ). Denotes p (w ++ 46 ∷ (ds ++ 47 ∷ value_text v)) (record { site = Pin l n; stuck = v })) (sym (decimal_digit n small)) (pin named small there (ends [] tt))
 
   read_written : (f : Fault) → Names p w (line_of f.site) → has_site p f.site ≡ true → fault_of p (item 1 (fault_text w f)) ≡ Ok f
   read_written f named there =

@@ -1,7 +1,6 @@
 -- A vector is read as the number that its bytes spell.
-use Rattle.std.proofs.Common.{◌≡◌, ℕ, zero, suc, ◌+◌, ◌-◌, ◌*◌, ◌/◌, ◌%◌, ◌^◌, ◌<◌, ◌≤◌, min, true, false, eqb, ltb, leb, List, [], ◌∷◌, length, get_or, Ok, Err, Result, sym, ap, ◌∙◌, subst, ⊎_elim, add-mul, mul-add, div-one, one-add, arith}
+use Rattle.std.proofs.Common.{◌≡◌, ℕ, zero, suc, ◌+◌, ◌-◌, ◌*◌, ◌/◌, ◌%◌, ◌^◌, ◌<◌, ◌≤◌, min, true, false, eqb, ltb, leb, List, [], ◌∷◌, length, get_or, Ok, Err, Result, sym, ap, ◌∙◌, subst, ⊎_elim, add-mul, mul-add, div-one, arith}
 use native.Mathlib.Nat.{two-pow-succ}
-use Rattle.std.proofs.lemmas.Nat.{shr-shr}
 use Rattle.std.proofs.lemmas.Bool.{cond-true, cond-false, cases_Bool, cases_eq, eq-eqb, ne_eqb, eqb-true, le-ltb, ltb-false, lt-leb, leb-false}
 use Rattle.std.specs.List.{AllByRecursion}
 use Rattle.textfiles.specs.Cursors.{Spot, skip, flaw}
@@ -11,8 +10,9 @@ use Rattle.textfiles.specs.Vectors.{bits_on, vector_of, Spells}
 use Rattle.textfiles.specs.declared.flaws.ReadError.{ReadError}
 use Rattle.textfiles.specs.declared.flaws.What.TheVariants.{NotABit, ShortVector}
 use Rattle.textfiles.proofs.BitTurns.{doubled}
+use Rattle.textfiles.proofs.Digits.{half}
 use Rattle.textfiles.proofs.EachItem.{accepts}
-use Rattle.textfiles.proofs.Steps.{unless_ok}
+use Rattle.texts.proofs.Risen.{unless_ok}
 
 abbrev Digits : List ℕ → Type 0
 Digits bs = AllByRecursion (λ b. (48 ≤ b) × (b ≤ 49)) bs
@@ -21,10 +21,6 @@ Digits bs = AllByRecursion (λ b. (48 ≤ b) × (b ≤ 49)) bs
 abbrev number : List ℕ → ℕ
 number [] = 0
 number (b ∷ bs) = (b - 48) + (number bs + number bs)
-
--- bit k + 1 of a number is bit k of its half
-half : (v k : ℕ) → v / 2 ^ suc k ≡ v / 2 / 2 ^ k
-half v k = ap (λ i. v / 2 ^ i) (sym (one-add k)) ∙ sym (shr-shr v 1 k)
 
 number_below : (bs : List ℕ) → Digits bs → number bs < 2 ^ length bs
 number_below [] d = omega arith

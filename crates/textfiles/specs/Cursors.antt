@@ -1,20 +1,19 @@
 -- What is left of an item, and where it stands.
 use Rattle.std.specs.Prelude.{ℕ, ◌+◌, ◌-◌, Bool, not, ◌||◌, List, length, take, drop, ◌==◌, slice_index}
-use Rattle.std.specs.Char.{is_ascii_digit, is_ascii_alphabetic}
 use Rattle.std.specs.List.{prefix_len, suffix_len}
+use Rattle.texts.specs.Bytes.{name_byte, space_byte}
 use Rattle.textfiles.specs.declared.cursors.Class.{Class}
-use Rattle.textfiles.specs.declared.cursors.Class.TheVariants.{Line, Content, Blank, Space, Name}
+use Rattle.textfiles.specs.declared.cursors.Class.TheVariants.{Content, Blank, Space, Name}
 use Rattle.textfiles.specs.declared.cursors.Cursor.{Cursor}
 use Rattle.textfiles.specs.declared.flaws.What.{What}
 use Rattle.textfiles.specs.declared.flaws.Flaw.{Flaw}
 
--- a line goes up to byte 0Ah, its content up to `#`; a name has letters, digits and underscores
+-- the content of a line goes up to `#`
 abbrev pub has : Class → ℕ → Bool
-has Line b = not (b == 10)
 has Content b = not (b == 35)
-has Blank b = b == 32 || (b == 9 || b == 13)
+has Blank b = space_byte b
 has Space b = b == 32 || b == 9
-has Name b = is_ascii_alphabetic b || (is_ascii_digit b || b == 95)
+has Name b = name_byte b
 
 -- how many bytes of the class stand in front
 abbrev pub run : Class → List ℕ → ℕ

@@ -11,7 +11,7 @@ use Rattle.circuit.specs.declared.faults.Site.{Site}
 use Rattle.circuit.specs.declared.faults.Site.TheVariants.{Stem, Pin}
 use Rattle.circuit.specs.declared.lines.Line.{Line}
 use Rattle.textfiles.specs.Cursors.{Spot, byte, run, skip, past, flaw}
-use Rattle.textfiles.specs.Flaws.{bind, unless}
+use Rattle.texts.specs.Steps.{bind, unless}
 use Rattle.textfiles.specs.Items.{items_of, each}
 use Rattle.textfiles.specs.declared.cursors.Class.TheVariants.{Name, Space}
 use Rattle.textfiles.specs.declared.flaws.Flaw.{Flaw}

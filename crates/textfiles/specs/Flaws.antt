@@ -1,5 +1,6 @@
 -- What is wrong with a text, in words; and what a reader answers.
-use Rattle.std.specs.Prelude.{◌≡◌, ℕ, Bool, cond, List, Ok, Err, codes, Result}
+use Rattle.std.specs.Prelude.{◌≡◌, ℕ, List, ◌++◌, Ok, Err, codes, Result}
+use Rattle.circuit.specs.Refusals.{place_text}
 use Rattle.textfiles.specs.declared.flaws.What.{What}
 use Rattle.textfiles.specs.declared.flaws.What.TheVariants.{NotABit, ShortVector, LongVector, NoName, UnknownName, NoSign, NoSlash, NoPin, NotFed, FedTwice, NoValue, Trailing}
 use Rattle.textfiles.specs.declared.flaws.Flaw.{Flaw}
@@ -20,14 +21,14 @@ sentence_of FedTwice = codes "this line feeds more than one pin of the gate"
 sentence_of NoValue = codes "the value must be 0 or 1"
 sentence_of Trailing = codes "nothing may stand after the value"
 
--- one thing, and then what it leads to; a flaw rises unchanged
-abbrev pub bind : {X Y : Type 0} → Result X Flaw → (X → Result Y Flaw) → Result Y Flaw
-bind (Ok x) f = f x
-bind (Err e) f = Err e
+-- line and column, and a sentence
+abbrev pub flaw_text : Flaw → List ℕ
+flaw_text f = place_text f.place ++ (codes ": " ++ sentence_of f.what)
 
--- the flaw, where its condition holds
-abbrev pub unless : {X : Type 0} → Bool → Flaw → Result X Flaw → Result X Flaw
-unless b e r = cond b (Err e) r
+-- why a file is not read
+abbrev pub error_text : ReadError → List ℕ
+error_text Memory = codes "there is not enough memory"
+error_text (Flawed f) = flaw_text f
 
 -- a reader's answer is the wanted one, unless memory is wanting
 abbrev pub Answers : {V X : Type 0} → (V → X) → Result V ReadError → Result X Flaw → Type 0

@@ -1,21 +1,13 @@
 -- The items of a text.
-use Rattle.std.specs.Prelude.{◌≡◌, ℕ, zero, suc, ◌+◌, ◌^◌, ◌<◌, cond, List, [], ◌∷◌, ◌++◌, length, take, IfOk, Some, None, Ok, Option, Result, ◌==◌}
+use Rattle.std.specs.Prelude.{◌≡◌, ℕ, ◌+◌, cond, List, [], ◌∷◌, ◌++◌, length, take, IfOk, Ok, Result, ◌==◌}
+use Rattle.texts.specs.Lines.{lines_of}
+use Rattle.texts.specs.Steps.{bind}
 use Rattle.textfiles.specs.Cursors.{Spot, spot, run, item}
-use Rattle.textfiles.specs.Flaws.{bind, Answers}
-use Rattle.textfiles.specs.declared.cursors.Class.TheVariants.{Line, Content}
+use Rattle.textfiles.specs.Flaws.{Answers}
+use Rattle.textfiles.specs.declared.cursors.Class.TheVariants.{Content}
 use Rattle.textfiles.specs.declared.cursors.Cursor.{Cursor}
 use Rattle.textfiles.specs.declared.flaws.Flaw.{Flaw}
 use Rattle.textfiles.specs.declared.flaws.ReadError.{ReadError}
-use Rattle.textfiles.specs.declared.items.Items.{Items}
-
--- the lines of a text, of which the first k bytes belong to a line already told
-abbrev pub lines_from : ℕ → List ℕ → List (List ℕ)
-lines_from k [] = []
-lines_from (suc k) (b ∷ bs) = lines_from k bs
-lines_from zero (b ∷ bs) = take (run Line (b ∷ bs)) (b ∷ bs) ∷ lines_from (run Line (b ∷ bs)) bs
-
-abbrev pub lines_of : List ℕ → List (List ℕ)
-lines_of text = lines_from 0 text
 
 -- the item of line l: what stands before a comment, without the blanks around
 abbrev pub item_of : ℕ → List ℕ → Spot
@@ -29,18 +21,9 @@ items_after n (l ∷ ls) = cond (length (item_of (n + 1) l).rest == 0) (items_af
 abbrev pub items_of : List ℕ → List Spot
 items_of text = items_after 0 (lines_of text)
 
--- the items ahead
-abbrev pub ahead : Items → List Spot
-ahead i = items_after i.before (lines_of i.rest.now)
-
--- the line numbers ahead are small
-abbrev pub Low : Items → Type 0
-Low i = i.before + length i.rest.now < 2 ^ 63
-
--- the first item was taken, if there is one
-abbrev pub Took : Option Cursor → List Spot → List Spot → Type 0
-Took None before after = before ≡ []
-Took (Some c) before after = before ≡ spot c ∷ after
+-- each answer at an item is what m says of it
+abbrev pub Means : {X : Type 0} → (Cursor → Result X Flaw → Type 0) → (Spot → Result X Flaw) → Type 0
+Means {X} gives m = (c : Cursor) (r : Result X Flaw) → gives c r → r ≡ m (spot c)
 
 -- what the items mean one after another, after those that mean xs
 abbrev pub each : {X : Type 0} → (Spot → Result X Flaw) → List X → List Spot → Result (List X) Flaw

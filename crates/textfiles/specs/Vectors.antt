@@ -1,7 +1,7 @@
 -- The vectors of a text.
 use Rattle.std.specs.Prelude.{◌≡◌, ℕ, ◌+◌, ◌/◌, ◌%◌, ◌^◌, ◌<◌, ◌≤◌, min, cond, List, [], ◌∷◌, length, Ok, Err, Result, ◌==◌, nat_le, nat_lt, slice_index}
 use Rattle.textfiles.specs.Cursors.{Spot, skip, flaw}
-use Rattle.textfiles.specs.Flaws.{unless}
+use Rattle.texts.specs.Steps.{unless}
 use Rattle.textfiles.specs.Items.{items_of, each}
 use Rattle.textfiles.specs.declared.flaws.Flaw.{Flaw}
 use Rattle.textfiles.specs.declared.flaws.What.TheVariants.{NotABit, ShortVector, LongVector}

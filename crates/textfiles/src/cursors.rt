@@ -1,15 +1,14 @@
 // What is left of an item.
 ghost use Rattle.std.specs.Prelude.{◌≡◌, ◌≤◌, length};
-ghost use Rattle.textfiles.specs.Cursors.{has, run, spot, byte, skip, past, flaw, shut, item};
+ghost use Rattle.textfiles.specs.Cursors.{has, run, spot, skip, past, flaw, shut, item};
 
 use crate::flaws::{Flaw, What};
 use circuit::Place;
+use texts::{in_name, is_space};
 
-// Which bytes go on with what has begun.
+// Which bytes go on with what has begun. An enum and not closures, so that a contract names the bytes that are passed.
 #[derive(Clone, Copy)]
 pub(crate) enum Class {
-    // Up to the line's end.
-    Line,
     // Up to a comment.
     Content,
     // What is ignored around an item.
@@ -24,11 +23,10 @@ impl Class {
         ensures { result ≡ has self b }
     {
         match self {
-            Class::Line => b != b'\n',
             Class::Content => b != b'#',
-            Class::Blank => b == b' ' || b == b'\t' || b == b'\r',
+            Class::Blank => is_space(b),
             Class::Space => b == b' ' || b == b'\t',
-            Class::Name => b.is_ascii_alphanumeric() || b == b'_',
+            Class::Name => in_name(b),
         }
     }
 
@@ -37,11 +35,7 @@ impl Class {
         ensures run { result ≡ run self s.now }
         ensures within { result ≤ length s.now }
     {
-        let mut n = 0;
-        while n < s.len() && self.has(s[n]) {
-            n += 1;
-        }
-        n
+        s.iter().take_while(|b| self.has(**b)).count()
     }
 }
 
@@ -58,11 +52,10 @@ fn shut_len(s: &[u8]) -> usize
     ensures value { result ≡ shut s.now }
     ensures within { result ≤ length s.now }
 {
-    let mut n = s.len();
-    while n > 0 && Class::Blank.has(s[n - 1]) {
-        n -= 1;
+    match s.iter().rposition(|b| !Class::Blank.has(*b)) {
+        Some(last) => last + 1,
+        None => 0,
     }
-    n
 }
 
 impl<'t> Cursor<'t> {
@@ -70,7 +63,7 @@ impl<'t> Cursor<'t> {
     pub(crate) fn item(bytes: &'t [u8], line: usize) -> Cursor<'t>
         ensures { spot result ≡ item line bytes.now }
     {
-        let (rest, _) = bytes.split_at(shut_len(bytes));
+        let rest = &bytes[..shut_len(bytes)];
         let cursor = Cursor {
             rest,
             line,
@@ -79,26 +72,12 @@ impl<'t> Cursor<'t> {
         cursor.past(Class::Blank)
     }
 
-    // The first byte; 0, which is no sign, where there is none.
-    pub(crate) fn byte(self) -> u8
-        ensures { result ≡ byte (spot self.entry) }
-    {
-        if self.rest.is_empty() {
-            return 0;
-        }
-        self.rest[0]
-    }
-
     // Past so many bytes, or all.
     pub(crate) fn skip(self, n: usize) -> Cursor<'t>
         ensures { spot result ≡ skip n (spot self.entry) }
     {
         let (_, rest) = self.rest.split_at(n.min(self.rest.len()));
-        Cursor {
-            rest,
-            line: self.line,
-            end: self.end,
-        }
+        Cursor { rest, ..self }
     }
 
     // Past the bytes of a class.

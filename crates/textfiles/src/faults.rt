@@ -1,7 +1,6 @@
-// Fault lists.
-ghost use Rattle.std.specs.Prelude.{◌≡◌, ◌≤◌, vec_items};
+// Fault lists. The circuit is an argument of each step that names a line: a reader that holds it would be no plainer.
+ghost use Rattle.std.specs.Prelude.{◌≡◌, ◌==◌, position, vec_items};
 ghost use Rattle.circuit.specs.Plans.{plan};
-ghost use Rattle.circuit.specs.Shape.{pin_count, pins_of};
 ghost use Rattle.textfiles.specs.Cursors.{spot, item};
 ghost use Rattle.textfiles.specs.Denotes.{Denotes, Faithful};
 ghost use Rattle.textfiles.specs.Flaws.{Answers};
@@ -10,56 +9,55 @@ ghost use Rattle.textfiles.specs.Faults.{line_at, pin_at, places_from, only, fed
 
 use crate::cursors::{Class, Cursor};
 use crate::flaws::{Flaw, ReadError, What};
-use crate::items::Items;
-use circuit::{Circuit, Fault, Gate, Line, Site};
+use crate::items::read_all;
+use circuit::{Circuit, Fault, Line, Pins, Site};
 use std::alloc::Global;
 
 // The line of the name in front.
 fn read_name(at: Cursor<'_>, circuit: &Circuit) -> Result<u16, Flaw>
     ensures { result ≡ line_at (plan circuit.now) (spot at.entry) }
 {
-    let (name, _) = at.rest.split_at(Class::Name.run(at.rest));
+    let name = &at.rest[..Class::Name.run(at.rest)];
     if name.is_empty() {
         return Err(at.flaw(What::NoName));
     }
-    match circuit.draft.line_of(name) {
-        Some(line) => Ok(line as u16),
-        None => Err(at.flaw(What::UnknownName)),
-    }
+    let line = circuit
+        .draft
+        .line_of(name)
+        .ok_or(at.flaw(What::UnknownName))?;
+    Ok(line as u16)
 }
 
 // The pin of a line's gate that the digit in front gives.
 fn read_pin(at: Cursor<'_>, circuit: &Circuit, line: u16) -> Result<u8, Flaw>
     ensures { result ≡ pin_at (plan circuit.now) line (spot at.entry) }
 {
-    let digit = at.byte();
-    if !digit.is_ascii_digit() {
+    let [digit @ b'0'..=b'9', ..] = at.rest else {
         return Err(at.flaw(What::NoPin));
-    }
-    let pin = digit - b'0';
+    };
+    let pin = *digit - b'0';
     if !circuit.has_site(Site::Pin(line, pin)) {
         return Err(at.flaw(What::NoPin));
     }
     Ok(pin)
 }
 
-// The one pin of a gate that a line feeds, or a flaw at `from`.
-fn only_pin(from: Cursor<'_>, gate: Gate, line: u16) -> Result<u8, Flaw>
-    requires { pin_count (Line.Gate gate) ≤ 4 }
-    ensures { result ≡ only (spot from.entry) (places_from line 0 (pins_of (Line.Gate gate))) }
+// The first pin that a line feeds.
+fn first_pin(pins: &[u16], line: u16) -> Option<usize>
+    ensures { result ≡ position (λ q. q == line) pins.now }
 {
-    let mut found = None;
-    for p in 0..gate.count {
-        if gate.pins[p as usize] == line {
-            if found.is_some() {
-                return Err(from.flaw(What::FedTwice));
-            }
-            found = Some(p);
-        }
-    }
-    match found {
-        Some(pin) => Ok(pin),
+    pins.iter().position(|pin| *pin == line)
+}
+
+// The one pin that a line feeds among a gate's pins, or a flaw at `from`.
+fn only_pin(from: Cursor<'_>, pins: &Pins, line: u16) -> Result<u8, Flaw>
+    ensures { result ≡ only (spot from.entry) (places_from line 0 pins.now) }
+{
+    let pins = pins.as_slice();
+    match first_pin(pins, line) {
         None => Err(from.flaw(What::NotFed)),
+        Some(pin) if pins[pin + 1..].contains(&line) => Err(from.flaw(What::FedTwice)),
+        Some(pin) => Ok(pin as u8),
     }
 }
 
@@ -68,7 +66,7 @@ fn fed_pin(from: Cursor<'_>, circuit: &Circuit, line: u16, gate: u16) -> Result<
     ensures { result ≡ fed_pin (plan circuit.now) (spot from.entry) line gate }
 {
     match circuit.line(gate as usize) {
-        Some(Line::Gate(gate)) => only_pin(from, gate, line),
+        Some(Line::Gate(gate)) => only_pin(from, &gate.pins, line),
         _ => Err(from.flaw(What::NotFed)),
     }
 }
@@ -76,9 +74,9 @@ fn fed_pin(from: Cursor<'_>, circuit: &Circuit, line: u16, gate: u16) -> Result<
 fn read_bit(at: Cursor<'_>) -> Result<bool, Flaw>
     ensures { result ≡ bit_at (spot at.entry) }
 {
-    match at.byte() {
-        b'0' => Ok(false),
-        b'1' => Ok(true),
+    match at.rest {
+        [b'0', ..] => Ok(false),
+        [b'1', ..] => Ok(true),
         _ => Err(at.flaw(What::NoValue)),
     }
 }
@@ -88,9 +86,9 @@ fn read_value(at: Cursor<'_>, missing: What) -> Result<bool, Flaw>
     ensures { result ≡ value_at missing (spot at.entry) }
 {
     let slash = at.past(Class::Space);
-    if slash.byte() != b'/' {
+    let [b'/', ..] = slash.rest else {
         return Err(slash.flaw(missing));
-    }
+    };
     let value = slash.skip(1);
     let stuck = read_bit(value)?;
     let after = value.skip(1);
@@ -109,14 +107,14 @@ fn read_site(
 ) -> Result<Fault, Flaw>
     ensures { result ≡ site_after (plan circuit.now) (spot item.entry) line (spot sign.entry) }
 {
-    match (sign.byte(), sign.skip(1).byte()) {
-        (b'.', _) => {
+    match sign.rest {
+        [b'.', ..] => {
             let pin = read_pin(sign.skip(1), circuit, line)?;
             let stuck = read_value(sign.skip(2), What::NoSlash)?;
             let site = Site::Pin(line, pin);
             Ok(Fault { site, stuck })
         }
-        (b'-', b'>') => {
+        [b'-', b'>', ..] => {
             let name = sign.skip(2);
             let gate = read_name(name, circuit)?;
             let pin = fed_pin(item, circuit, line, gate)?;
@@ -152,10 +150,5 @@ pub fn read_faults(heap: Global, text: &[u8], circuit: &Circuit) -> Result<Vec<F
     ensures value { Answers vec_items result (faults_of text.now (plan circuit.now)) }
     ensures law { Accepts vec_items (λ s f. Denotes (plan circuit.now) s.rest f) (items_of text.now) result }
 {
-    let mut faults = Vec::new(heap);
-    let mut items = Items::new(text);
-    while let Some(item) = items.next() {
-        faults.push(read_item(item, circuit)?)?;
-    }
-    Ok(faults)
+    read_all(heap, text, |item| read_item(item, circuit))
 }

@@ -1,12 +1,14 @@
 // What is wrong with a text, and where.
-ghost use Rattle.std.specs.Prelude.{◌≡◌};
-ghost use Rattle.textfiles.specs.Flaws.{sentence_of};
+ghost use Rattle.std.specs.Prelude.{◌≡◌, Some};
+ghost use Rattle.textfiles.specs.Flaws.{sentence_of, flaw_text, error_text};
 ghost use Rattle.textfiles.specs.declared.flaws.ReadError.TheVariants.{Memory, Flawed};
 
 use circuit::Place;
 use std::alloc::AllocFailed;
+use std::error::Error;
+use std::fmt;
 
-#[derive(Clone, Copy)]
+#[derive(Clone, Copy, Debug, PartialEq, Eq)]
 pub enum What {
     // A byte of a vector is neither `0` nor `1`.
     NotABit,
@@ -52,19 +54,52 @@ impl What {
     }
 }
 
-#[derive(Clone, Copy)]
+impl fmt::Display for What {
+    ghost output = { λ what. Some (sentence_of what) };
+
+    fn fmt<W: fmt::Write>(&self, f: &mut fmt::Formatter<W>) -> fmt::Result {
+        f.write_str(self.sentence())
+    }
+}
+
+#[derive(Clone, Copy, Debug, PartialEq, Eq)]
 pub struct Flaw {
     pub place: Place,
     pub what: What,
 }
 
+// Line, column and a sentence.
+impl fmt::Display for Flaw {
+    ghost output = { λ flaw. Some (flaw_text flaw) };
+
+    fn fmt<W: fmt::Write>(&self, f: &mut fmt::Formatter<W>) -> fmt::Result {
+        let Flaw { place, what } = *self;
+        write!(f, "{place}: {what}")
+    }
+}
+
+impl Error for Flaw {}
+
 // Why a file is not read.
-#[derive(Clone, Copy)]
+#[derive(Clone, Copy, Debug, PartialEq, Eq)]
 pub enum ReadError {
     // There is not enough memory.
     Memory,
     Flawed(Flaw),
 }
+
+impl fmt::Display for ReadError {
+    ghost output = { λ error. Some (error_text error) };
+
+    fn fmt<W: fmt::Write>(&self, f: &mut fmt::Formatter<W>) -> fmt::Result {
+        match self {
+            ReadError::Memory => f.write_str("there is not enough memory"),
+            ReadError::Flawed(flaw) => write!(f, "{flaw}"),
+        }
+    }
+}
+
+impl Error for ReadError {}
 
 impl From<Flaw> for ReadError {
     ghost from_gives = { λ f r. r ≡ Flawed f };

@@ -1,60 +1,37 @@
 // The items of a text, one after another.
-ghost use Rattle.std.specs.Prelude.{◌≡◌, drop};
-ghost use Rattle.textfiles.specs.Cursors.{spot};
-ghost use Rattle.textfiles.specs.Items.{item_of, items_of, ahead, Low, Took};
+ghost use Rattle.std.specs.Prelude.{◌≡◌, [], vec_items, Result};
+ghost use Rattle.textfiles.specs.Cursors.{Spot, spot};
+ghost use Rattle.textfiles.specs.Flaws.{Answers};
+ghost use Rattle.textfiles.specs.Items.{item_of, items_of, each, Means};
 
 use crate::cursors::{Class, Cursor};
-
-#[derive(Drop)]
-pub(crate) struct Items<'t> {
-    rest: &'t [u8],
-    // How many lines stand before the rest.
-    before: usize,
-}
+use crate::flaws::{Flaw, ReadError};
+use std::alloc::Global;
+use texts::Lines;
 
 // The item of a line, with no bytes where the line has none.
 fn item_of<'t>(line: &'t [u8], number: usize) -> Cursor<'t>
     ensures { spot result ≡ item_of number line.now }
 {
-    let (content, _) = line.split_at(Class::Content.run(line));
+    let content = &line[..Class::Content.run(line)];
     Cursor::item(content, number)
 }
 
-// What stands after the byte that ends a line.
-fn past_end(s: &[u8]) -> &[u8]
-    ensures { result.now ≡ drop 1 s.now }
+// What the items of a text mean, where `read` says what one means.
+pub(crate) fn read_all<T: Drop, F: Fn(Cursor<'_>) -> Result<T, Flaw>>(
+    heap: Global,
+    text: &[u8],
+    read: F,
+) -> Result<Vec<T>, ReadError>
+    requires { F.IsAlwaysCallable read }
+    ensures { (m : Spot → Result T Flaw) → Means (F.post read) m → Answers vec_items result (each m [] (items_of text.now)) }
 {
-    match s {
-        [_, more @ ..] => more,
-        [] => s,
-    }
-}
-
-impl<'t> Items<'t> {
-    pub(crate) fn new(text: &'t [u8]) -> Items<'t>
-        ensures items { ahead result ≡ items_of text.now }
-        ensures low { Low result }
-    {
-        Items {
-            rest: text,
-            before: 0,
+    let mut meant = Vec::new(heap);
+    for (i, line) in Lines::new(text).enumerate() {
+        let item = item_of(line, i + 1);
+        if !item.rest.is_empty() {
+            meant.push(read(item)?)?;
         }
     }
-
-    pub(crate) fn next(&mut self) -> Option<Cursor<'t>>
-        requires { Low self.old }
-        ensures items { Took result (ahead self.old) (ahead self.new) }
-        ensures low { Low self.new }
-    {
-        while !self.rest.is_empty() {
-            let (line, after) = self.rest.split_at(Class::Line.run(self.rest));
-            self.rest = past_end(after);
-            self.before += 1;
-            let item = item_of(line, self.before);
-            if !item.rest.is_empty() {
-                return Some(item);
-            }
-        }
-        None
-    }
+    Ok(meant)
 }

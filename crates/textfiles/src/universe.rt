@@ -16,6 +16,7 @@ fn push_both(faults: &mut Vec<Fault>, site: Site) -> Result<(), AllocError>
 }
 
 // The faults of the pins of a line's gate, pins upward.
+#[tactic(auto, using(crate::proofs::Pushes::next_pin))]
 fn push_pins(faults: &mut Vec<Fault>, line: u16, count: u8) -> Result<(), AllocError>
     ensures { OnOk result (faults.new.items ≡ faults.old.items ++ pin_faults line 0 count) }
 {
@@ -32,7 +33,7 @@ fn push_line(faults: &mut Vec<Fault>, number: u16, line: Line) -> Result<(), All
     push_both(faults, Site::Stem(number))?;
     match line {
         Line::Input(_) => Ok(()),
-        Line::Gate(gate) => push_pins(faults, number, gate.count),
+        Line::Gate(gate) => push_pins(faults, number, gate.pins.as_slice().len() as u8),
     }
 }
 

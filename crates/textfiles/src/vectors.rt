@@ -7,17 +7,16 @@ ghost use Rattle.textfiles.specs.Vectors.{vector_of, vectors_of, Spells};
 
 use crate::cursors::Cursor;
 use crate::flaws::{Flaw, ReadError, What};
-use crate::items::Items;
+use crate::items::read_all;
+use circuit::MAX_INPUTS;
 use std::alloc::Global;
 
-// The most bits that a vector or an output word has.
-pub(crate) const MAX_BITS: usize = 64;
-
 // The number whose bit j is the item's byte j.
+#[tactic(auto, using(crate::proofs::BitTurns::too_long))]
 fn read_vector(item: Cursor<'_>, inputs: usize) -> Result<u64, Flaw>
     ensures { result ≡ vector_of inputs (spot item.entry) }
 {
-    let most = inputs.min(MAX_BITS);
+    let most = inputs.min(MAX_INPUTS);
     let mut vector: u64 = 0;
     for (j, b) in item.rest.iter().enumerate() {
         if j >= most {
@@ -40,10 +39,5 @@ pub fn read_vectors(heap: Global, text: &[u8], inputs: usize) -> Result<Vec<u64>
     ensures value { Answers vec_items result (vectors_of text.now inputs) }
     ensures law { Accepts vec_items (λ s v. Spells inputs s.rest v) (items_of text.now) result }
 {
-    let mut vectors = Vec::new(heap);
-    let mut items = Items::new(text);
-    while let Some(item) = items.next() {
-        vectors.push(read_vector(item, inputs)?)?;
-    }
-    Ok(vectors)
+    read_all(heap, text, |item| read_vector(item, inputs))
 }

@@ -1,39 +1,53 @@
 // Faults, vectors and output words as text.
-ghost use Rattle.std.specs.Prelude.{◌≡◌, true, [], IfOk, Ok, string_bytes, IsUtf8};
-ghost use Rattle.std.specs.Option.{option_map};
+ghost use Rattle.std.specs.Prelude.{◌≡◌, ◌/◌, ◌%◌, ◌^◌, ◌<◌, true, [], IfOk, Some, Ok, string_bytes, IsUtf8};
 ghost use Rattle.circuit.specs.Plans.{plan, has_site, line_of};
-ghost use Rattle.circuit.specs.Spelled.{bytes_of};
 ghost use Rattle.textfiles.specs.Cursors.{item};
 ghost use Rattle.textfiles.specs.Denotes.{Names};
 ghost use Rattle.textfiles.specs.Faults.{fault_of};
-ghost use Rattle.textfiles.specs.Writing.{spelled, name_of, value_text, fault_text, low_bit, bits_text, log_line};
+ghost use Rattle.textfiles.specs.Writing.{spelled, name_of, fault_text, bits_text, log_line};
 
-use crate::vectors::MAX_BITS;
 use circuit::{Circuit, Fault, Name, Site};
 use std::alloc::{AllocError, Global};
+use std::fmt;
 use std::str::from_utf8;
 
-// The character of bit 0.
-fn low_bit(word: u64) -> char
-    ensures { result ≡ low_bit word }
+// The bit at a place of a word, as the digit that is printed.
+fn bit_at(word: u64, place: usize) -> u64
+    requires { place < 64 }
+    ensures { result ≡ word / 2 ^ place % 2 }
 {
-    if word % 2 == 1 { '1' } else { '0' }
+    (word >> place) % 2
+}
+
+// The first bits of a word, bit 0 leftmost.
+#[derive(Clone, Copy)]
+struct Bits {
+    word: u64,
+    count: usize,
+}
+
+impl fmt::Display for Bits {
+    ghost output = { λ b. Some (bits_text b.word b.count) };
+
+    fn fmt<W: fmt::Write>(&self, f: &mut fmt::Formatter<W>) -> fmt::Result {
+        let Bits { word, count } = *self;
+        for place in 0..count.min(u64::BITS as usize) {
+            let bit = bit_at(word, place);
+            write!(f, "{bit}")?;
+        }
+        Ok(())
+    }
 }
 
 // The first bits of a word, bit 0 leftmost.
 pub fn bits_text(heap: Global, word: u64, count: usize) -> Result<String, AllocError>
     ensures { IfOk result (λ s. string_bytes s ≡ bits_text word count) }
 {
-    let mut text = String::new(heap);
-    let mut rest = word;
-    for _bit in 0..count.min(MAX_BITS) {
-        text.push(low_bit(rest))?;
-        rest /= 2;
-    }
-    Ok(text)
+    Bits { word, count }.to_string(heap)
 }
 
 // A vector and the output word that it gives.
+#[tactic(auto, using(crate::proofs::Digits::spaced))]
 pub fn log_line(
     heap: Global,
     vector: u64,
@@ -43,40 +57,46 @@ pub fn log_line(
 ) -> Result<String, AllocError>
     ensures { IfOk result (λ s. string_bytes s ≡ log_line vector inputs word outputs) }
 {
-    let mut line = bits_text(heap, vector, inputs)?;
-    let shown = bits_text(heap, word, outputs)?;
-    line.push_str(" ")?;
-    line.push_str(shown.as_str())?;
-    Ok(line)
+    let vector = Bits {
+        word: vector,
+        count: inputs,
+    };
+    let answer = Bits {
+        word,
+        count: outputs,
+    };
+    format!(in heap; "{vector} {answer}")
 }
 
-fn value_text(stuck: bool) -> &'static str
-    ensures { result.now ≡ value_text stuck }
-{
-    if stuck { "1" } else { "0" }
+// A fault as it stands in a fault list, under the name of its line.
+#[derive(Clone, Copy)]
+struct Named<'n> {
+    name: &'n str,
+    fault: Fault,
 }
 
-fn write_fault(heap: Global, name: &str, fault: Fault) -> Result<String, AllocError>
-    ensures { IfOk result (λ s. string_bytes s ≡ fault_text name.now fault) }
-{
-    let value = value_text(fault.stuck);
-    match fault.site {
-        Site::Stem(_) => format!(in heap; "{name}/{value}"),
-        Site::Pin(_, pin) => format!(in heap; "{name}.{pin}/{value}"),
+impl fmt::Display for Named<'_> {
+    ghost output = { λ n. Some (fault_text n.name.now n.fault) };
+
+    #[tactic(auto, using(crate::proofs::Digits::value_digit))]
+    fn fmt<W: fmt::Write>(&self, f: &mut fmt::Formatter<W>) -> fmt::Result {
+        let name = self.name;
+        let value = u8::from(self.fault.stuck);
+        match self.fault.site {
+            Site::Stem(_) => write!(f, "{name}/{value}"),
+            Site::Pin(_, pin) => write!(f, "{name}.{pin}/{value}"),
+        }
     }
 }
 
-// A name as text: empty where it is no text, or there is none.
+// A name as text: empty where it is no text, or there is none, since both are written alike.
 fn name_text(name: &Option<Name>) -> &str
-    ensures text { IsUtf8 (spelled (option_map bytes_of name.now)) → result.now ≡ spelled (option_map bytes_of name.now) }
-    ensures other { (IsUtf8 (spelled (option_map bytes_of name.now)) → ⊥) → result.now ≡ [] }
+    ensures text { IsUtf8 (spelled name.now) → result.now ≡ spelled name.now }
+    ensures other { (IsUtf8 (spelled name.now) → ⊥) → result.now ≡ [] }
 {
-    let Some(name) = name else {
-        return "";
-    };
-    match from_utf8(name.bytes()) {
-        Ok(text) => text,
-        Err(_) => "",
+    match name {
+        Some(name) => from_utf8(name.bytes()).unwrap_or(""),
+        None => "",
     }
 }
 
@@ -87,5 +107,6 @@ pub fn fault_text(heap: Global, circuit: &Circuit, fault: Fault) -> Result<Strin
     ensures law { Names (plan circuit.now) (name_of (plan circuit.now) fault) (line_of fault.site) → has_site (plan circuit.now) fault.site ≡ true → IfOk result (λ s. fault_of (plan circuit.now) (item 1 (string_bytes s)) ≡ Ok fault) }
 {
     let name = circuit.name(fault.site.line() as usize);
-    write_fault(heap, name_text(&name), fault)
+    let name = name_text(&name);
+    Named { name, fault }.to_string(heap)
 }

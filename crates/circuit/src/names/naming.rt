@@ -1,24 +1,15 @@
-ghost use Rattle.std.specs.Prelude.{◌≡◌, ◌<◌, map, length, IfSome};
-ghost use Rattle.circuit.specs.Names.{find, print_of};
-ghost use Rattle.circuit.specs.Spelled.{bytes_of, Short};
-ghost use Rattle.std.specs.Str.{bytes_eq};
+ghost use Rattle.std.specs.Prelude.{◌≡◌, ◌<◌, ◌≤◌, length, IfSome};
+ghost use Rattle.circuit.specs.Names.{find, print_of, Short};
 
-use super::{MAX_NAME, Name};
-
-fn same(a: &[u8], b: &[u8]) -> bool
-    ensures { result ≡ bytes_eq a.now b.now }
-{
-    a == b
-}
+use super::Name;
+use crate::few::Few;
 
 fn print_of(word: &[u8]) -> u64
     ensures { result ≡ print_of word.now }
 {
-    let mut print: u64 = 0;
-    for b in word {
-        print = print.wrapping_mul(31).wrapping_add(*b as u64);
-    }
-    print
+    word.iter().fold(0, |print: u64, b| {
+        print.wrapping_mul(31).wrapping_add(u64::from(*b))
+    })
 }
 
 impl Name {
@@ -26,41 +17,26 @@ impl Name {
     pub fn new(word: &[u8]) -> Option<Name>
         ensures { Short word.now result }
     {
-        let len = word.len();
-        if len > MAX_NAME {
-            return None;
-        }
-        let mut bytes = [0; MAX_NAME];
-        bytes[0..len].copy_from_slice(word);
+        let bytes = Few::of(word, 0)?;
         let print = print_of(word);
-        Some(Name { bytes, len, print })
+        Some(Name { bytes, print })
     }
 
     pub fn bytes(&self) -> &[u8]
-        ensures { result.now ≡ bytes_of self.now }
+        ensures value { result.now ≡ self.now }
+        ensures short { length self.now ≤ 16 }
     {
-        &self.bytes[0..self.len]
+        self.bytes.as_slice()
     }
 }
 
-// Whether a name has these bytes, whose print is given.
-fn is(name: &Name, word: &[u8], print: u64) -> bool
-    requires { print ≡ print_of word.now }
-    ensures { result ≡ bytes_eq (bytes_of name.now) word.now }
-{
-    name.print == print && same(name.bytes(), word)
-}
-
-// The first place at which a word stands among the names.
+// The first place at which a word stands among the names. They are a list, since a map would ask for memory while a netlist is read.
 pub(crate) fn find(names: &[Name], word: &[u8]) -> Option<usize>
-    ensures value { result ≡ find (map bytes_of names.now) word.now }
+    ensures value { result ≡ find names.now word.now }
     ensures within { IfSome result (λ i. i < length names.now) }
 {
     let print = print_of(word);
-    for (i, n) in names.iter().enumerate() {
-        if is(n, word, print) {
-            return Some(i);
-        }
-    }
-    None
+    names
+        .iter()
+        .position(|name| name.print == print && name.bytes() == word)
 }

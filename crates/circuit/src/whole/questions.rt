@@ -1,10 +1,8 @@
-ghost use Rattle.std.specs.Prelude.{◌≡◌, true, false, map, length, IfOk, ◌==◌};
+ghost use Rattle.std.specs.Prelude.{◌≡◌, true, false, length, IfOk, ◌==◌};
 ghost use Rattle.std.specs.List.{slice_get};
 ghost use Rattle.circuit.specs.Names.{find};
 ghost use Rattle.circuit.specs.Shape.{inputs_in};
 ghost use Rattle.circuit.specs.Plans.{plan, empty, Sound, pins_at, has_site};
-ghost use Rattle.circuit.specs.Spelled.{bytes_of};
-ghost use Rattle.std.specs.Option.{option_map};
 
 use super::Circuit;
 use crate::drafts::Draft;
@@ -58,21 +56,21 @@ impl Circuit {
     pub fn line(&self, number: usize) -> Option<Line>
         ensures { result ≡ slice_get (plan self.now).lines number }
     {
-        at(self.draft.lines.as_slice(), number)
+        self.draft.lines.get(number).copied()
     }
 
     // The line that an output shows.
     pub fn output(&self, number: usize) -> Option<u16>
         ensures { result ≡ slice_get (plan self.now).outputs number }
     {
-        at(self.draft.outputs.as_slice(), number)
+        self.draft.outputs.get(number).copied()
     }
 
     // The name of a line.
     pub fn name(&self, number: usize) -> Option<Name>
-        ensures { option_map bytes_of result ≡ slice_get (plan self.now).names number }
+        ensures { result ≡ slice_get (plan self.now).names number }
     {
-        name_at(self.draft.names.as_slice(), number)
+        self.draft.names.get(number).copied()
     }
 
     // The line of a name.
@@ -88,35 +86,17 @@ impl Circuit {
     {
         match site {
             Site::Stem(line) => (line as usize) < self.lines(),
-            Site::Pin(line, pin) => pin < pins_at(self.line(line as usize)),
+            Site::Pin(line, pin) => (pin as usize) < pins_at(self.line(line as usize)),
         }
     }
 }
 
 // How many pins the gate that drives a line has: none at an input, or where there is no line.
-fn pins_at(line: Option<Line>) -> u8
+fn pins_at(line: Option<Line>) -> usize
     ensures { result ≡ pins_at line }
 {
     match line {
-        Some(Line::Gate(gate)) => gate.count,
+        Some(Line::Gate(gate)) => gate.pins.as_slice().len(),
         _ => 0,
     }
-}
-
-// The element at a place, or nothing past the end.
-fn at<T: Copy>(items: &[T], place: usize) -> Option<T>
-    ensures { result ≡ slice_get items.now place }
-{
-    if place < items.len() {
-        Some(items[place])
-    } else {
-        None
-    }
-}
-
-// The name at a place, or nothing past the end.
-fn name_at(names: &[Name], place: usize) -> Option<Name>
-    ensures { option_map bytes_of result ≡ slice_get (map bytes_of names.now) place }
-{
-    at(names, place)
 }

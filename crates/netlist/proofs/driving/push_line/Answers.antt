@@ -1,37 +1,22 @@
-use Rattle.std.proofs.Common.{◌≡◌, [], ◌∷◌, ◌++◌, map, vec_items, sym, ap, ◌∙◌, subst, arith, rules}
-use Rattle.std.proofs.lemmas.List.{map_push}
-use Rattle.circuit.specs.Shape.{inputs_in, Counted, Filled, Fed, Numbered, Distinct}
-use Rattle.circuit.specs.Spelled.{bytes_of}
-use Rattle.netlist.proofs.Pushed.{counted_push, filled_push, fed_push, numbered_push, distinct_push, shown_more}
+use Rattle.std.proofs.Common.{[], ◌≤◌, length, vec_items, sym, ap, ◌∙◌, subst}
+use Rattle.circuit.specs.Shape.{inputs_in, Counted, Fed, Numbered, Brief, Distinct}
+use Rattle.netlist.proofs.Pushed.{every_push, counted_push, fed_push, numbered_push, distinct_push}
 use Rattle.netlist.proofs.driving.push_line.Goals as goal
 
-pub invariant_of-draft : goal.invariant_of-draft
-invariant_of-draft c =
-    let d = c.args.draft.now in
-    let ls = vec_items d.lines in
-    let ms = vec_items c.push_reserved.new.self in
-    let l = c.args.line in
-    let e : ms ≡ ls ++ l ∷ [] = c.push_reserved.ensures.items in
-    let ok = c.requires.line in
-    let names : map bytes_of (vec_items c.push_reserved-2.new.self) ≡ map bytes_of (vec_items d.names) ++ bytes_of c.args.name ∷ [] = ap (map bytes_of) c.push_reserved-2.ensures.items ∙ map_push bytes_of (vec_items d.names) c.args.name in
-    record {
-      room = search rules;
-      few = search rules;
-      named = search rules;
-      tallied = c.requires.inputs.0 ∙ ap inputs_in (sym e);
-      fewer = search rules;
-      slim = search rules;
-      shown = shown_more (vec_items d.outputs) _ _ (omega (arith, c.push_reserved.ensures.len)) d.shown;
-      counted = subst Counted (sym e) (counted_push ls l ok d.counted);
-      filled = subst Filled (sym e) (filled_push ls l ok d.filled);
-      fed = subst Fed (sym e) (fed_push ls l ok d.fed);
-      numbered = subst Numbered (sym e) (numbered_push ls l ok d.numbered);
-      distinct = subst Distinct (sym names) (distinct_push (map bytes_of (vec_items d.names)) (bytes_of c.args.name) d.distinct c.requires.fresh);
-    }
+pub invariant_of-draft-clause-tallied : goal.invariant_of-draft-clause-tallied
+invariant_of-draft-clause-tallied c = c.requires.inputs.0 ∙ ap inputs_in (sym c.push_reserved.ensures.items)
 
-pub returns : goal.returns
-returns c =
-    let d = c.args.draft.now in
-    let lines = c.push_reserved.ensures.items in
-    let names = ap (map bytes_of) c.push_reserved-2.ensures.items ∙ map_push bytes_of (vec_items d.names) c.args.name in
-    λ i. record { lines = lines i; names = names i; outputs = vec_items d.outputs }
+pub invariant_of-draft-clause-counted : goal.invariant_of-draft-clause-counted
+invariant_of-draft-clause-counted c = subst Counted (sym c.push_reserved.ensures.items) (counted_push _ c.args.line c.requires.line c.args.draft.now.counted)
+
+pub invariant_of-draft-clause-fed : goal.invariant_of-draft-clause-fed
+invariant_of-draft-clause-fed c = subst Fed (sym c.push_reserved.ensures.items) (fed_push _ c.args.line c.requires.line c.args.draft.now.fed)
+
+pub invariant_of-draft-clause-numbered : goal.invariant_of-draft-clause-numbered
+invariant_of-draft-clause-numbered c = subst Numbered (sym c.push_reserved.ensures.items) (numbered_push _ c.args.line c.requires.line c.args.draft.now.numbered)
+
+pub invariant_of-draft-clause-brief : goal.invariant_of-draft-clause-brief
+invariant_of-draft-clause-brief c = subst Brief (sym c.push_reserved-2.ensures.items) (every_push [] (λ i w. length w ≤ 16) _ c.args.name c.args.draft.now.brief c.requires.short)
+
+pub invariant_of-draft-clause-distinct : goal.invariant_of-draft-clause-distinct
+invariant_of-draft-clause-distinct c = subst Distinct (sym c.push_reserved-2.ensures.items) (distinct_push (vec_items c.args.draft.now.names) c.args.name c.args.draft.now.distinct c.requires.fresh)

@@ -1,26 +1,17 @@
-use Rattle.std.proofs.Common.{◌+◌, drop, sym, ap, ◌∙◌, arith}
-use Rattle.std.proofs.lemmas.List.{at_drop_all}
+use Rattle.std.proofs.Common.{◌≡◌, not, length, ap, ◌∙◌, rules}
+use Rattle.std.proofs.lemmas.Iterator.{YieldsList-from_slice}
+use Rattle.std.proofs.lemmas.Iterator.Consumers.{nth_from_yields_List, YieldsList-from_filter, YieldsList-from_enumerate}
+use Rattle.std.specs.Option.{option_map}
 use Rattle.simulation.specs.Rows.{front}
-use Rattle.simulation.proofs.Fronts.{front_dropped, front_full, front_more}
+use Rattle.simulation.proofs.Fronts.{place, front_nth}
 use Rattle.simulation.proofs.filing.batch_len.Goals as goal
-use Rattle.simulation.proofs.filing.batch_len.Goals.{then-is_live+else-free-eq0, else-is_live}
-
-pub returns-then-free-eq0 : goal.returns-then-free-eq0
-returns-then-free-eq0 c = omega (arith, c.loop-i.invariant, front_full c.args.listed.now c.loop-i.i _ c.loop-i-test.true c.loop-i.free (sym c.if-is_live.ensures) c.if-free-eq0.true)
-
-pub loop-i-preserved : goal.loop-i-preserved
-loop-i-preserved c =
-    let xs = c.args.listed.now in
-    let i = c.loop-i.i in
-    let lt = c.loop-i-test.true in
-    elim c.if-is_live.branch [
-      | then-is_live+else-free-eq0 w ↦
-          let more = front_more xs i _ lt c.loop-i.free (sym w.if-is_live.ensures) w.if-free-eq0.false in
-          ap (λ k. i + 1 + front k (drop (i + 1) xs)) w.free-is ∙ omega (arith, more, c.loop-i.invariant)
-      | else-is_live w ↦
-          let on = front_dropped xs i _ lt c.loop-i.free (sym w.if-is_live.ensures) in
-          ap (λ k. i + 1 + front k (drop (i + 1) xs)) w.free-is ∙ omega (arith, on, c.loop-i.invariant)
-    ]
 
 pub returns : goal.returns
-returns c = omega (arith, c.loop-i.invariant, at_drop_all (front c.loop-i.free) c.args.listed.now c.loop-i.i c.loop-i-test.false)
+returns c =
+    let k = c.args.lanes in
+    let xs = c.args.listed.now in
+    let found =
+    nth_from_yields_List c.nth.result c.nth.new.self k c.nth.ensures.ran
+    (YieldsList-from_filter _ (λ x. not x.1.dropped) (YieldsList-from_enumerate (YieldsList-from_slice xs (cc)) (cc)) c.filter.ensures.closure (λ x b q h. search rules)) in
+    let end : place (length xs) (option_map (λ x. (x.0, x.1.now)) c.nth.result) ≡ front c.args.lanes c.args.listed.now = ap (place (length xs)) found ∙ front_nth k xs in
+    search rules

@@ -1,9 +1,8 @@
 use Rattle.std.proofs.Common.{◌+◌, [], ◌∷◌, ◌++◌, drop, sym, ap, ◌∙◌, arith}
-use Rattle.std.proofs.lemmas.List.{at_drop_all, append-nil, append_assoc, length-take-le}
+use Rattle.std.proofs.lemmas.List.{at_drop_all, append-nil, append_assoc}
 use Rattle.simulation.specs.Members.{members}
 use Rattle.simulation.specs.Rows.{live}
 use Rattle.simulation.proofs.Fronts.{live_dropped, live_taken, live_room}
-use Rattle.simulation.proofs.Holding.{roomy}
 use Rattle.simulation.proofs.filing.gather.Goals as goal
 use Rattle.simulation.proofs.filing.gather.Goals.{then-is_live, else-is_live}
 
@@ -12,7 +11,7 @@ add-requires c =
     let b = c.loop-one.batch in
     let xs = c.args.listed.now in
     let i = c.loop-one.one-index in
-    omega (arith, live_room xs i _ c.loop-one-test.true (members b) 64 (sym c.if-is_live.ensures) c.loop-one.invariant c.requires, length-take-le b.count b.faults (roomy b))
+    omega (arith, live_room xs i _ c.loop-one-test.true (members b) 64 (sym c.if-is_live.ensures) c.loop-one.invariant c.requires)
 
 pub loop-one-preserved : goal.loop-one-preserved
 loop-one-preserved c =

@@ -1,23 +1,38 @@
-use Rattle.std.proofs.Common.{◌+◌, ◌^◌, ◌<◌, get_or, sym, ap, ◌∙◌, subst, arith}
-use Rattle.std.proofs.lemmas.List.{take_all}
-use Rattle.circuit.specs.Machines.{binary, value_at, word_from}
+use Rattle.std.proofs.Common.{◌+◌, ◌*◌, [], ◌∷◌, ◌++◌, ap, ◌∙◌, arith}
+use Rattle.std.proofs.lemmas.List.{append_assoc}
+use Rattle.circuit.specs.Machines.{binary, value_at}
 use Rattle.simulation.specs.Lanes.{seen}
-use Rattle.simulation.proofs.Sums.{look_at, word_step, bit_shl, sum_below}
+use Rattle.simulation.proofs.Sums.{look_at, word_step, output_low, word_room, byte_low}
 use Rattle.simulation.proofs.filing.read_word.Goals as goal
 
-pub loop-j-preserved : goal.loop-j-preserved
-loop-j-preserved g c =
-    let m = g.M.Method in
-    let j = c.loop-j.j in
-    let lt = c.loop-j-test.true in
-    let value = value_at binary (seen m.lane c.args.stems.now c.args.lane) in
-    let k = get_or c.args.outputs.now j 0 in
-    let t = c.look.result in
-    let sum = ap (λ x. c.loop-j.word + x) (bit_shl t j (omega (arith, c.requires.few))) in (
-      subst (λ n. n < 2 ^ (j + 1)) (sym sum) (sum_below t c.loop-j.word j c.loop-j.invariant.0),
-      word_step value c.args.outputs.now j c.loop-j.word _ t lt
-          (look_at m.lane m.count c.args.lane k c.args.stems.now c.index-stems-line.result t c.requires.lane (c.requires.shown j lt) c.index-stems-line.is c.look.ensures) c.loop-j.invariant.1 sum,
-    )
+pub overflow_mul-word : goal.overflow_mul-word
+overflow_mul-word g c =
+    let d = c.args.circuit.now.draft in
+    let split = c.loop-line.invariant.1 ∙ ap (λ xs. xs ++ c.loop-line.invariant.0) c.in-Some.ensures.steps in
+    omega (arith, word_room _ _ _ _ split (value_at binary (seen g.M.Method.lane c.args.stems.now c.args.lane)) c.loop-line.word (omega (arith, d.outputs.ok.0, d.slim)) c.loop-line.invariant.2)
 
-pub returns : goal.returns
-returns g c = c.loop-j.invariant.1 ∙ ap (word_from (value_at binary (seen g.M.Method.lane c.args.stems.now c.args.lane))) (take_all _ _ c.loop-j-test.false)
+pub offset_bounds-stems-line : goal.offset_bounds-stems-line
+offset_bounds-stems-line g c =
+    let split = c.loop-line.invariant.1 ∙ ap (λ xs. xs ++ c.loop-line.invariant.0) c.in-Some.ensures.steps in
+    omega (arith, output_low _ _ _ _ split _ c.args.circuit.now.draft.shown, c.args.circuit.now.draft.lines.ok.0, c.requires.stems)
+
+pub overflow_add-word : goal.overflow_add-word
+overflow_add-word g c =
+    let d = c.args.circuit.now.draft in
+    let split = c.loop-line.invariant.1 ∙ ap (λ xs. xs ++ c.loop-line.invariant.0) c.in-Some.ensures.steps in
+    omega (arith, word_room _ _ _ _ split (value_at binary (seen g.M.Method.lane c.args.stems.now c.args.lane)) c.loop-line.word (omega (arith, d.outputs.ok.0, d.slim)) c.loop-line.invariant.2, c.from.ensures, byte_low c.look.result)
+
+pub loop-line-preserved : goal.loop-line-preserved
+loop-line-preserved g c =
+    let m = g.M.Method in
+    let k = c.in-Some.line.now in
+    let done = c.loop-line.invariant.0 in
+    let split = c.loop-line.invariant.1 ∙ ap (λ xs. xs ++ c.loop-line.invariant.0) c.in-Some.ensures.steps in
+    let low = output_low _ _ _ _ split _ c.args.circuit.now.draft.shown in
+    let value = value_at binary (seen m.lane c.args.stems.now c.args.lane) in (
+      k ∷ done,
+      split ∙ append_assoc c.next.new.self.iter.rest.now (k ∷ []) done,
+      ap (λ n. c.loop-line.word * 2 + n) c.from.ensures
+          ∙ word_step value done k c.loop-line.word c.look.result
+          (look_at m.lane m.LANES c.args.lane k c.args.stems.now c.index-stems-line.result c.look.result c.requires.lane (omega (arith, low, c.args.circuit.now.draft.lines.ok.0, c.requires.stems)) c.index-stems-line.is c.look.ensures) c.loop-line.invariant.2,
+    )

@@ -1,0 +1,4 @@
+pub mod Fronts
+pub mod LineTurns
+pub mod NameBytes
+pub mod Risen
