@@ -1,5 +1,6 @@
 -- What a search for a name finds.
-use Rattle.std.proofs.Common.{◌≡◌, ℕ, zero, suc, ◌+◌, ◌<◌, false, List, [], ◌∷◌, length, get_or, Some, None, Option, sym, refl, ap, ◌∙◌, ⊎_elim, arith}
+use Rattle.std.proofs.Common.{◌≡◌, ℕ, zero, suc, ◌+◌, ◌<◌, false, List, [], ◌∷◌, map, length, get_or, Some, None, Option, sym, refl, ap, ◌∙◌, ⊎_elim, arith}
+use Rattle.std.proofs.lemmas.List.{get_or-map, length-map}
 use Rattle.std.proofs.lemmas.Slice.Eq.{bytes_eq-Decides}
 use Rattle.std.proofs.lemmas.Bool.{cases_Bool, cond-true, cond-false, both_ways}
 use Rattle.std.specs.List.{AllWithin, HoldsAt}
@@ -54,7 +55,18 @@ found_at l ns w e = let r = found_from 0 l ns w e in let h : r.0 ≡ l = omega a
 pub none_at : (ns : List (List ℕ)) (w : List ℕ) → find ns w ≡ None → (k : ℕ) → k < length ns → get_or ns k [] ≡ w → ⊥
 none_at ns w e k = none_from 0 k ns w e
 
--- no name is the word, or the first that is it stands at i
-pub find_from_first : (ns : List (List ℕ)) (w : List ℕ) (r : Option ℕ) → MatchOption r (AllWithin (λ n. n ≡ w → ⊥) ns 0 (length ns)) (λ i. (i < length ns) × HoldsAt (λ n. n ≡ w) ns i × AllWithin (λ n. n ≡ w → ⊥) ns 0 i) → r ≡ find ns w
-find_from_first ns w None h = sym (find_none ns w (λ k lt. h k [] (omega arith) lt))
-find_from_first ns w (Some i) h = sym (find_at i ns w h.0 (h.1 []) (λ k lt. h.2 k [] (omega arith) lt))
+-- a search among the names that elements have
+module _ {X : Type 0} (view : X → List ℕ) (w : List ℕ) where
+  -- each name is that of the element at its place
+  viewed : (xs : List X) (d : X) (k : ℕ) → k < length (map view xs) → (k < length xs) × (get_or (map view xs) k [] ≡ view (get_or xs k d))
+  viewed xs d k lt = let here : k < length xs = omega (arith, length-map xs view) in (here, get_or-map view xs k d [] here)
+
+  -- no element has the name, or the first that has it stands at i
+  pub find_from_first : (xs : List X) (r : Option ℕ) → MatchOption r (AllWithin (λ x. view x ≡ w → ⊥) xs 0 (length xs)) (λ i. (i < length xs) × HoldsAt (λ x. view x ≡ w) xs i × AllWithin (λ x. view x ≡ w → ⊥) xs 0 i) → r ≡ find (map view xs) w
+  find_from_first [] None h = refl
+  find_from_first [] (Some i) h = absurd (omega (arith, h.0))
+  find_from_first (x ∷ xs) None h = sym (find_none (map view (x ∷ xs)) w (λ k lt e. let v = viewed (x ∷ xs) x k lt in h k x (omega arith) v.0 (sym v.1 ∙ e)))
+  find_from_first (x ∷ xs) (Some i) h =
+      let here : i < length (map view (x ∷ xs)) = omega (arith, h.0, length-map (x ∷ xs) view) in
+      sym (find_at i (map view (x ∷ xs)) w here ((viewed (x ∷ xs) x i here).1 ∙ h.1 x)
+      (λ k lt e. h.2 k x (omega arith) lt (sym (viewed (x ∷ xs) x k (omega arith)).1 ∙ e)))

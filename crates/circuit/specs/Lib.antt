@@ -1,6 +1,7 @@
 pub mod Few
 pub mod Gates
 pub mod Names
+pub mod Spelled
 pub mod Shape
 pub mod Plans
 pub mod Refusals

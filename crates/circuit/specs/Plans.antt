@@ -1,7 +1,8 @@
 -- A circuit without its memory, and what every circuit is.
-use Rattle.std.specs.Prelude.{◌≡◌, ℕ, ◌≤◌, Bool, List, [], length, Some, None, vec_items, Option, nat_lt}
+use Rattle.std.specs.Prelude.{◌≡◌, ℕ, ◌≤◌, Bool, List, [], map, length, Some, None, vec_items, Option, nat_lt}
 use Rattle.std.specs.List.{slice_get}
 use Rattle.circuit.specs.Shape.{pin_count, inputs_in, Counted, Fed, Numbered, Brief, Distinct, Shown}
+use Rattle.circuit.specs.Spelled.{bytes_of}
 use Rattle.circuit.specs.declared.lines.Line.{Line}
 use Rattle.circuit.specs.declared.faults.Site.{Site}
 use Rattle.circuit.specs.declared.faults.Site.TheVariants.{Stem, Pin}
@@ -14,7 +15,7 @@ pub record Plan : Type 0 where
   pub outputs : List ℕ
 
 abbrev pub plan_of : Draft → Plan
-plan_of d = record { lines = vec_items d.lines; names = vec_items d.names; outputs = vec_items d.outputs }
+plan_of d = record { lines = vec_items d.lines; names = map bytes_of (vec_items d.names); outputs = vec_items d.outputs }
 
 abbrev pub plan : Circuit → Plan
 plan c = plan_of c.draft

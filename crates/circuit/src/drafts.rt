@@ -1,6 +1,7 @@
 // A circuit in the making: lines and names so far, and the outputs found.
-ghost use Rattle.std.specs.Prelude.{◌≡◌, ◌≤◌, vec_len, vec_capacity};
-ghost use Rattle.circuit.specs.Shape.{inputs_in, Counted, Fed, Numbered, Brief, Distinct, Shown};
+ghost use Rattle.std.specs.Prelude.{◌≡◌, ◌≤◌, map, vec_len, vec_capacity};
+ghost use Rattle.circuit.specs.Shape.{inputs_in, Counted, Fed, Numbered, Distinct, Shown};
+ghost use Rattle.circuit.specs.Spelled.{bytes_of};
 
 use crate::lines::Line;
 use crate::names::Name;
@@ -32,6 +33,5 @@ pub struct Draft {
     ghost counted: { Counted lines.items },
     ghost fed: { Fed lines.items },
     ghost numbered: { Numbered lines.items },
-    ghost brief: { Brief names.items },
-    ghost distinct: { Distinct names.items },
+    ghost distinct: { Distinct (map bytes_of names.items) },
 }

@@ -7,7 +7,8 @@ use std::marker::Model;
 // At most N items, and at most 255. The library's ArrayVec is not Copy, and lines and names are copied.
 #[derive(Clone, Copy, Debug, PartialEq, Eq)]
 pub struct Few<T, const N: usize> {
-    cells: [T; N],
+    // The items, then the spare places; open within the crate.
+    pub(crate) cells: [T; N],
     // A byte keeps a line small.
     len: u8,
 }

@@ -1,6 +1,8 @@
 // A line's name: at most sixteen bytes, in memory of fixed size.
+ghost use Rattle.std.specs.Prelude.{◌≡◌, ◌-◌, ◌≤◌, length, replicate};
+ghost use Rattle.circuit.specs.Names.{print_of};
+
 use crate::few::Few;
-use std::marker::Model;
 
 mod naming;
 
@@ -9,25 +11,13 @@ pub(crate) use naming::find;
 // The most bytes that a name has.
 pub const MAX_NAME: usize = 16;
 
+// No Model: behind a reference, and in a list, a Model's value alone carries no bound.
 #[derive(Clone, Copy, Debug, PartialEq, Eq)]
 pub struct Name {
     bytes: Few<u8, MAX_NAME>,
     // Equal names have equal prints, so unequal prints tell names apart at once.
     print: u64,
-}
-
-impl Model for Name {
-    ghost use Rattle.std.specs.Prelude.{◌≡◌, ℕ, ◌-◌, List, length, replicate};
-    ghost use Rattle.std.proofs.Common.{sym};
-    ghost use Rattle.circuit.specs.Names.{print_of};
-
-    ghost Value = { List ℕ };
-
-    ghost view = { λ n. n.bytes.items };
-
-    ghost invariant = { λ n. (n.bytes.spare ≡ replicate (16 - length n.bytes.items) 0) × (n.print ≡ print_of n.bytes.items) };
-
-    ghost inverse = { λ w. record { bytes = record { items = w; spare = replicate (16 - length w) 0 }; print = print_of w } };
-
-    ghost inverse_ok = { λ n h i. record { bytes = record { items = n.bytes.items; spare = sym h.0 i }; print = sym h.1 i } };
+    ghost short: { length bytes.items ≤ 16 },
+    ghost spared: { bytes.spare ≡ replicate (16 - length bytes.items) 0 },
+    ghost printed: { print ≡ print_of bytes.items },
 }

@@ -6,7 +6,7 @@ mod steps;
 
 pub use messages::{kind_line, refusal_line, sizes};
 pub use steps::{
-    CARD, bench, check, load, load_circuit, read_or_say, refuse, tour, unknown_command,
+    CARD, bench, check, load, load_circuit, read_or_say, refuse, report, tour, unknown_command,
 };
 
 #[cfg(test)]
@@ -47,7 +47,8 @@ mod tests {
         let timed = bench(&rt, file)?;
         fs::remove_file(&rt, file)?;
         let shown = tour(&rt, CARD)?;
-        for circuit in [loaded, checked, timed, shown] {
+        let reported = report(&rt, "card", CARD.as_bytes())?;
+        for circuit in [loaded, checked, timed, shown, reported] {
             assert_eq!(rt; circuit.lines(), 6);
         }
         Ok(())

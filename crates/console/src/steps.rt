@@ -96,6 +96,20 @@ fn print_counts(rt: &(impl Print + AllocGlobal), circuit: &Circuit) -> anyhow::R
     Ok(())
 }
 
+// Reads a netlist, prints what it has, and gives its circuit.
+pub fn report(
+    rt: &(impl Print + Eprint + AllocGlobal),
+    file: &str,
+    text: &[u8],
+) -> anyhow::Result<Circuit>
+    ensures value { IfOk result (λ circuit. meaning text.now ≡ Ok (plan circuit)) }
+    ensures law { IfOk result (λ circuit. Accepted text.now (plan circuit)) }
+{
+    let circuit = circuit_or_say(rt, file, text)?;
+    print_counts(rt, &circuit)?;
+    Ok(circuit)
+}
+
 // Reads a netlist file, prints what it has, and gives its circuit.
 pub fn check(
     rt: &(impl Files + Print + Eprint + AllocGlobal),

@@ -3,10 +3,12 @@ use Rattle.std.specs.Prelude.{◌≡◌, ℕ, ◌+◌, ◌<◌, ◌≤◌, Bool,
 use Rattle.std.specs.Option.{ok_or}
 use Rattle.circuit.specs.Names.{find}
 use Rattle.circuit.specs.Shape.{is_input, input_at, pin_count, pin_from, least_pins, most_pins, inputs_in, gate_of}
+use Rattle.circuit.specs.Spelled.{bytes_of}
 use Rattle.circuit.specs.Plans.{Plan}
 use Rattle.circuit.specs.declared.kinds.Kind.{Kind}
 use Rattle.circuit.specs.declared.lines.Line.{Line}
 use Rattle.circuit.specs.declared.lines.Line.TheVariants.{Input, Gate}
+use Rattle.circuit.specs.declared.names.Name.{Name}
 use Rattle.circuit.specs.declared.refusals.Refusal.{Refusal}
 use Rattle.circuit.specs.declared.refusals.Refusal.TheVariants.{LongName, ManyLines, ManyInputs, ManyOutputs, Redriven, UnknownPin, UnknownOutput}
 use Rattle.texts.specs.Steps.{bind, unless}
@@ -38,6 +40,10 @@ pub record State : Type 0 where
 
 abbrev pub state : Plan → ℕ → State
 state p n = record { plan = p; asked = n }
+
+abbrev pub spelt : Result Name Refusal → Result (List ℕ) Refusal
+spelt (Ok n) = Ok (bytes_of n)
+spelt (Err e) = Err e
 
 -- over: the name has more than 16 bytes
 abbrev pub long : Named → Bool

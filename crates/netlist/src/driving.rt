@@ -1,11 +1,12 @@
 // What one statement adds to a draft.
-ghost use Rattle.std.specs.Prelude.{◌≡◌, ◌<◌, ◌≤◌, [], ◌∷◌, ◌++◌, length, None, Result, vec_len};
+ghost use Rattle.std.specs.Prelude.{◌≡◌, ◌<◌, ◌≤◌, [], ◌∷◌, ◌++◌, None, Result, vec_len};
 ghost use Rattle.circuit.specs.Names.{find};
 ghost use Rattle.circuit.specs.Shape.{inputs_in};
+ghost use Rattle.circuit.specs.Spelled.{bytes_of};
 ghost use Rattle.circuit.specs.Plans.{Plan, plan_of};
 ghost use Rattle.circuit.specs.declared.refusals.Refusal.{Refusal};
 ghost use Rattle.netlist.specs.Statements.{Stmt, named, pin_labels, stmt_of};
-ghost use Rattle.netlist.specs.Driving.{Fits, State, state, with_line, outcome, want_short, want_room, want_undriven, short_pins, resolve, drive_input, drive_gate, ask_output, show_output, drive, show};
+ghost use Rattle.netlist.specs.Driving.{Fits, State, state, with_line, outcome, spelt, want_short, want_room, want_undriven, short_pins, resolve, drive_input, drive_gate, ask_output, show_output, drive, show};
 
 use crate::statements::{Label, Pins, Statement};
 use circuit::{Draft, Gate, Line, MAX_INPUTS, MAX_LINES, MAX_NAME, MAX_OUTPUTS, Name, Refusal};
@@ -36,11 +37,10 @@ pub(crate) struct Show;
 // One line more, with its name; `inputs` is the number of inputs with it.
 fn push_line(draft: &mut Draft, name: Name, line: Line, inputs: usize)
     requires room { vec_len draft.old.lines < 1024 }
-    requires short { length name ≤ 16 }
-    requires fresh { find (plan_of draft.old).names name ≡ None }
+    requires fresh { find (plan_of draft.old).names (bytes_of name) ≡ None }
     requires line { Fits draft.old.lines.items line }
     requires inputs { (inputs ≡ inputs_in (draft.old.lines.items ++ line ∷ [])) × (inputs ≤ 64) }
-    ensures { plan_of draft.new ≡ with_line (plan_of draft.old) name line }
+    ensures { plan_of draft.new ≡ with_line (plan_of draft.old) (bytes_of name) line }
 {
     draft.lines.push_reserved(line);
     draft.names.push_reserved(name);
@@ -48,7 +48,7 @@ fn push_line(draft: &mut Draft, name: Name, line: Line, inputs: usize)
 }
 
 fn want_short(label: Label<'_>) -> Result<Name, Refusal>
-    ensures { result ≡ want_short (named label.entry) }
+    ensures { spelt result ≡ want_short (named label.entry) }
 {
     Name::new(label.bytes).ok_or(Refusal::LongName(label.place))
 }

@@ -123,6 +123,6 @@ module _ (xs : List Listed) (i : ℕ) (x : Listed) (h : i < length xs) where
   live_taken e = at_drop_more live xs i x h ∙ ap (λ b. cond b (live (drop (i + 1) xs)) ((get_or xs i x).fault ∷ live (drop (i + 1) xs))) e
 
   -- there is room for one fault more
-  pub live_room : (fs : List Fault) (n : ℕ) → (get_or xs i x).dropped ≡ false → fs ++ live (drop i xs) ≡ live xs → length (live xs) ≤ n → length fs < n
-  live_room fs n e whole le =
+  pub live_room : (fs all : List Fault) (n : ℕ) → (get_or xs i x).dropped ≡ false → fs ++ live (drop i xs) ≡ all → length all ≤ n → length fs < n
+  live_room fs all n e whole le =
       omega (arith, ap length (ap (λ gs. fs ++ gs) (sym (live_taken e)) ∙ whole), length-append fs ((get_or xs i x).fault ∷ live (drop (i + 1) xs)))

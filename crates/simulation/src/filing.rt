@@ -1,5 +1,5 @@
 // Batches of the listed faults, and the entries that they give.
-ghost use Rattle.std.specs.Prelude.{◌≡◌, ◌≤◌, map, length, None};
+ghost use Rattle.std.specs.Prelude.{◌≡◌, ◌≤◌, ◌++◌, map, length, None};
 ghost use Rattle.circuit.specs.Machines.{word};
 ghost use Rattle.circuit.specs.Plans.{plan};
 ghost use Rattle.simulation.specs.Lanes.{lane_word, Shows};
@@ -27,18 +27,16 @@ pub(crate) fn batch_len(listed: &[Listed], lanes: usize) -> usize
         .map_or(listed.len(), |(i, _)| i)
 }
 
-// The undropped faults, each in its lane.
-fn gather(listed: &[Listed]) -> Batch
-    requires { length (live listed.now) ≤ 64 }
-    ensures { members result ≡ live listed.now }
+// Adds the undropped faults, each in its lane. The batch is filled where it lies, since it is large to copy.
+fn gather(batch: &mut Batch, listed: &[Listed])
+    requires { length (members batch.old ++ live listed.now) ≤ 64 }
+    ensures { members batch.new ≡ members batch.old ++ live listed.now }
 {
-    let mut batch = Batch::new();
     for one in listed {
         if one.is_live() {
             batch.add(one.fault);
         }
     }
-    batch
 }
 
 // The output word of a lane: output j at bit j.
@@ -92,7 +90,8 @@ pub(crate) fn run_batch<M: Method>(
     ensures entries { row.new ≡ map (entry (plan circuit.now) vector) listed.now }
     ensures shows { Shows M.Method.lane M.Method.LANES (live listed.now) vector (plan circuit.now).lines work.new }
 {
-    let batch = gather(listed);
+    let mut batch = Batch::new();
+    gather(&mut batch, listed);
     walk(circuit, &batch, vector, work);
     file(circuit, listed, &work[..circuit.lines()], row)
 }

@@ -1,7 +1,6 @@
 -- Bits and values as digits.
-use Rattle.std.proofs.Common.{◌≡◌, ℕ, zero, suc, ◌+◌, ◌/◌, ◌%◌, ◌^◌, Bool, true, false, [], ◌∷◌, ◌++◌, codes, append_assoc, decimal, sym, ap, ◌∙◌, ⊎_elim, div-one, one-add, add-one, arith, lit<}
+use Rattle.std.proofs.Common.{◌≡◌, ℕ, zero, suc, ◌+◌, ◌/◌, ◌^◌, Bool, true, false, [], ◌∷◌, ◌++◌, codes, append_assoc, decimal, sym, ap, ◌∙◌, div-one, one-add, add-one, lit<}
 use Rattle.std.specs.Int.{from_bool}
-use Rattle.std.proofs.lemmas.Bool.{cond-true, cond-false, cases_eq, eq-eqb, ne_eqb}
 use Rattle.std.proofs.lemmas.Fmt.{decimal_digit}
 use Rattle.std.proofs.lemmas.Nat.{shr-shr}
 use Rattle.textfiles.specs.Writing.{low_bit, bits, bits_text, log_line, value_text}
@@ -10,21 +9,13 @@ use Rattle.textfiles.specs.Writing.{low_bit, bits, bits_text, log_line, value_te
 pub half : (v k : ℕ) → v / 2 ^ suc k ≡ v / 2 / 2 ^ k
 half v k = ap (λ i. v / 2 ^ i) (sym (one-add k)) ∙ sym (shr-shr v 1 k)
 
-low_digit : (w : ℕ) → decimal (w % 2) ≡ low_bit w ∷ []
-low_digit w =
-    decimal_digit (w % 2) (omega arith)
-    ∙ ⊎_elim
-    (λ (is : w % 2 ≡ 1). ap (λ d. (48 + d) ∷ []) is ∙ ap (λ d. d ∷ []) (sym (cond-true _ _ _ (eq-eqb (w % 2) 1 is))))
-    (λ (no : w % 2 ≡ 1 → ⊥). let zero-bit : w % 2 ≡ 0 = omega arith in ap (λ d. (48 + d) ∷ []) zero-bit ∙ ap (λ d. d ∷ []) (sym (cond-false _ _ _ (ne_eqb (w % 2) 1 no))))
-    (cases_eq (w % 2) 1)
-
 more_bits : (w k : ℕ) → bits w k ++ low_bit (w / 2 ^ k) ∷ [] ≡ bits w (suc k)
 more_bits w zero = ap (λ v. low_bit v ∷ []) (div-one w)
 more_bits w (suc k) = ap (λ v. low_bit w ∷ (bits (w / 2) k ++ low_bit v ∷ [])) (half w k) ∙ ap (λ bs. low_bit w ∷ bs) (more_bits (w / 2) k)
 
--- one more bit, as a digit
-pub next_bit : (w k : ℕ) → bits w k ++ decimal (w / 2 ^ k % 2) ≡ bits w (k + 1)
-next_bit w k = ap (λ bs. bits w k ++ bs) (low_digit (w / 2 ^ k)) ∙ more_bits w k ∙ ap (bits w) (sym (add-one k))
+-- one more bit
+pub next_bit : (w k : ℕ) → bits w k ++ low_bit (w / 2 ^ k) ∷ [] ≡ bits w (k + 1)
+next_bit w k = more_bits w k ∙ ap (bits w) (sym (add-one k))
 
 pub value_digit : (v : Bool) → decimal (from_bool v) ≡ value_text v
 value_digit false = decimal_digit 0 (lit< tt)

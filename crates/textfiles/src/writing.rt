@@ -1,22 +1,24 @@
 // Faults, vectors and output words as text.
-ghost use Rattle.std.specs.Prelude.{◌≡◌, ◌/◌, ◌%◌, ◌^◌, ◌<◌, true, [], IfOk, Some, Ok, string_bytes, IsUtf8};
+ghost use Rattle.std.specs.Prelude.{◌≡◌, ◌/◌, ◌^◌, ◌<◌, true, [], ◌∷◌, IfOk, Some, Ok, string_bytes, IsUtf8};
+ghost use Rattle.std.specs.Option.{option_map};
 ghost use Rattle.circuit.specs.Plans.{plan, has_site, line_of};
+ghost use Rattle.circuit.specs.Spelled.{bytes_of};
 ghost use Rattle.textfiles.specs.Cursors.{item};
 ghost use Rattle.textfiles.specs.Denotes.{Names};
 ghost use Rattle.textfiles.specs.Faults.{fault_of};
-ghost use Rattle.textfiles.specs.Writing.{spelled, name_of, fault_text, bits_text, log_line};
+ghost use Rattle.textfiles.specs.Writing.{spelled, name_of, fault_text, low_bit, bits_text, log_line};
 
 use circuit::{Circuit, Fault, Name, Site};
 use std::alloc::{AllocError, Global};
 use std::fmt;
 use std::str::from_utf8;
 
-// The bit at a place of a word, as the digit that is printed.
-fn bit_at(word: u64, place: usize) -> u64
+// The bit at a place of a word, as it is printed.
+fn bit_at(word: u64, place: usize) -> &'static str
     requires { place < 64 }
-    ensures { result ≡ word / 2 ^ place % 2 }
+    ensures { result.now ≡ low_bit (word / 2 ^ place) ∷ [] }
 {
-    (word >> place) % 2
+    if (word >> place) % 2 == 1 { "1" } else { "0" }
 }
 
 // The first bits of a word, bit 0 leftmost.
@@ -32,8 +34,7 @@ impl fmt::Display for Bits {
     fn fmt<W: fmt::Write>(&self, f: &mut fmt::Formatter<W>) -> fmt::Result {
         let Bits { word, count } = *self;
         for place in 0..count.min(u64::BITS as usize) {
-            let bit = bit_at(word, place);
-            write!(f, "{bit}")?;
+            f.write_str(bit_at(word, place))?;
         }
         Ok(())
     }
@@ -91,8 +92,8 @@ impl fmt::Display for Named<'_> {
 
 // A name as text: empty where it is no text, or there is none, since both are written alike.
 fn name_text(name: &Option<Name>) -> &str
-    ensures text { IsUtf8 (spelled name.now) → result.now ≡ spelled name.now }
-    ensures other { (IsUtf8 (spelled name.now) → ⊥) → result.now ≡ [] }
+    ensures text { IsUtf8 (spelled (option_map bytes_of name.now)) → result.now ≡ spelled (option_map bytes_of name.now) }
+    ensures other { (IsUtf8 (spelled (option_map bytes_of name.now)) → ⊥) → result.now ≡ [] }
 {
     match name {
         Some(name) => from_utf8(name.bytes()).unwrap_or(""),

@@ -1,5 +1,6 @@
-ghost use Rattle.std.specs.Prelude.{◌≡◌, ◌<◌, ◌≤◌, length, IfSome};
-ghost use Rattle.circuit.specs.Names.{find, print_of, Short};
+ghost use Rattle.std.specs.Prelude.{◌≡◌, ◌<◌, ◌≤◌, map, length, IfSome};
+ghost use Rattle.circuit.specs.Names.{find, print_of};
+ghost use Rattle.circuit.specs.Spelled.{bytes_of, Short};
 
 use super::Name;
 use crate::few::Few;
@@ -23,8 +24,8 @@ impl Name {
     }
 
     pub fn bytes(&self) -> &[u8]
-        ensures value { result.now ≡ self.now }
-        ensures short { length self.now ≤ 16 }
+        ensures value { result.now ≡ bytes_of self.now }
+        ensures short { length (bytes_of self.now) ≤ 16 }
     {
         self.bytes.as_slice()
     }
@@ -32,7 +33,7 @@ impl Name {
 
 // The first place at which a word stands among the names. They are a list, since a map would ask for memory while a netlist is read.
 pub(crate) fn find(names: &[Name], word: &[u8]) -> Option<usize>
-    ensures value { result ≡ find names.now word.now }
+    ensures value { result ≡ find (map bytes_of names.now) word.now }
     ensures within { IfSome result (λ i. i < length names.now) }
 {
     let print = print_of(word);

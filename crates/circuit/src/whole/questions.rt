@@ -1,8 +1,10 @@
 ghost use Rattle.std.specs.Prelude.{◌≡◌, true, false, length, IfOk, ◌==◌};
 ghost use Rattle.std.specs.List.{slice_get};
+ghost use Rattle.std.specs.Option.{option_map};
 ghost use Rattle.circuit.specs.Names.{find};
 ghost use Rattle.circuit.specs.Shape.{inputs_in};
 ghost use Rattle.circuit.specs.Plans.{plan, empty, Sound, pins_at, has_site};
+ghost use Rattle.circuit.specs.Spelled.{bytes_of};
 
 use super::Circuit;
 use crate::drafts::Draft;
@@ -68,7 +70,7 @@ impl Circuit {
 
     // The name of a line.
     pub fn name(&self, number: usize) -> Option<Name>
-        ensures { result ≡ slice_get (plan self.now).names number }
+        ensures { option_map bytes_of result ≡ slice_get (plan self.now).names number }
     {
         self.draft.names.get(number).copied()
     }

@@ -1,6 +1,8 @@
-use Rattle.std.proofs.Common.{[], ◌≤◌, length, vec_items, sym, ap, ◌∙◌, subst}
-use Rattle.circuit.specs.Shape.{inputs_in, Counted, Fed, Numbered, Brief, Distinct}
-use Rattle.netlist.proofs.Pushed.{every_push, counted_push, fed_push, numbered_push, distinct_push}
+use Rattle.std.proofs.Common.{◌≡◌, [], ◌∷◌, ◌++◌, map, vec_items, sym, ap, ◌∙◌, subst}
+use Rattle.std.proofs.lemmas.List.{map_push}
+use Rattle.circuit.specs.Shape.{inputs_in, Counted, Fed, Numbered, Distinct}
+use Rattle.circuit.specs.Spelled.{bytes_of}
+use Rattle.netlist.proofs.Pushed.{counted_push, fed_push, numbered_push, distinct_push}
 use Rattle.netlist.proofs.driving.push_line.Goals as goal
 
 pub invariant_of-draft-clause-tallied : goal.invariant_of-draft-clause-tallied
@@ -15,8 +17,8 @@ invariant_of-draft-clause-fed c = subst Fed (sym c.push_reserved.ensures.items) 
 pub invariant_of-draft-clause-numbered : goal.invariant_of-draft-clause-numbered
 invariant_of-draft-clause-numbered c = subst Numbered (sym c.push_reserved.ensures.items) (numbered_push _ c.args.line c.requires.line c.args.draft.now.numbered)
 
-pub invariant_of-draft-clause-brief : goal.invariant_of-draft-clause-brief
-invariant_of-draft-clause-brief c = subst Brief (sym c.push_reserved-2.ensures.items) (every_push [] (λ i w. length w ≤ 16) _ c.args.name c.args.draft.now.brief c.requires.short)
-
 pub invariant_of-draft-clause-distinct : goal.invariant_of-draft-clause-distinct
-invariant_of-draft-clause-distinct c = subst Distinct (sym c.push_reserved-2.ensures.items) (distinct_push (vec_items c.args.draft.now.names) c.args.name c.args.draft.now.distinct c.requires.fresh)
+invariant_of-draft-clause-distinct c =
+    let ns = vec_items c.args.draft.now.names in
+    let names : map bytes_of (vec_items c.push_reserved-2.new.self) ≡ map bytes_of ns ++ bytes_of c.args.name ∷ [] = ap (map bytes_of) c.push_reserved-2.ensures.items ∙ map_push bytes_of ns c.args.name in
+    subst Distinct (sym names) (distinct_push (map bytes_of ns) (bytes_of c.args.name) c.args.draft.now.distinct c.requires.fresh)

@@ -11,7 +11,7 @@ add-requires c =
     let b = c.loop-one.batch in
     let xs = c.args.listed.now in
     let i = c.loop-one.one-index in
-    omega (arith, live_room xs i _ c.loop-one-test.true (members b) 64 (sym c.if-is_live.ensures) c.loop-one.invariant c.requires)
+    omega (arith, live_room xs i _ c.loop-one-test.true (members b) _ 64 (sym c.if-is_live.ensures) c.loop-one.invariant c.requires)
 
 pub loop-one-preserved : goal.loop-one-preserved
 loop-one-preserved c =
