@@ -40,11 +40,15 @@ impl fmt::Display for Bits {
     }
 }
 
-// The first bits of a word, bit 0 leftmost.
+// The first bits of a word, bit 0 leftmost. By `Bits` it would take twice the time.
 pub fn bits_text(heap: Global, word: u64, count: usize) -> Result<String, AllocError>
     ensures { IfOk result (λ s. string_bytes s ≡ bits_text word count) }
 {
-    Bits { word, count }.to_string(heap)
+    let mut text = String::new(heap);
+    for place in 0..count.min(u64::BITS as usize) {
+        text.push_str(bit_at(word, place))?;
+    }
+    Ok(text)
 }
 
 // A vector and the output word that it gives.
