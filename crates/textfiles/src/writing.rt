@@ -40,7 +40,7 @@ impl fmt::Display for Bits {
     }
 }
 
-// The first bits of a word, bit 0 leftmost. By `Bits` it would take twice the time.
+// The first bits of a word, bit 0 leftmost. Its own loop, since it takes longer through `Bits`.
 pub fn bits_text(heap: Global, word: u64, count: usize) -> Result<String, AllocError>
     ensures { IfOk result (λ s. string_bytes s ≡ bits_text word count) }
 {
